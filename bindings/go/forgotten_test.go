@@ -57,10 +57,16 @@ func comeTo(t *testing.T, count int) {
 // Trees of a registry have a goroutine each, which ends when they are closed or forgotten.
 func TestForgottenTrees(t *testing.T) {
 	const count = 100
+	if _, err := RegistryTreesFromBytes([]byte{1}); err == nil {
+		t.Fatal("a byte is taken for leaves")
+	}
 	comeTo(t, 0)
 	kept := make([]*RegistryTrees, count)
 	for place := range kept {
 		trees, err := NewRegistryTrees()
+		if place%2 == 1 {
+			trees, err = RegistryTreesFromBytes(make([]byte, 64))
+		}
 		if err != nil {
 			t.Fatal(err)
 		}

@@ -8,6 +8,7 @@ import (
 	"strings"
 	"sync"
 	"sync/atomic"
+	"time"
 )
 
 // Log is what logs of both kinds have. Make a PackageLog or an OperatorLog: a Log by itself is not open.
@@ -130,6 +131,21 @@ func (l *Log) Head() (string, error) {
 	return l.text(func(to []byte, used *rawSize) rawStatus {
 		return C.warg_head(&l.raw, at(to), size(to), used)
 	})
+}
+
+// Last is the time and the version of the last record, and how many records there are; nil before any.
+func (l *Log) Last() (*Last, error) {
+	l.lock.Lock()
+	defer l.lock.Unlock()
+	var head C.struct_warg_head
+	if found, err := done(C.warg_head_of(&l.raw, &head), ""); !found {
+		return nil, err
+	}
+	last := &Last{Timestamp: time.Unix(int64(head.seconds), int64(head.nanos)).UTC(), Version: uint32(head.version), Count: -1}
+	if head.is_counted != 0 {
+		last.Count = int(head.count)
+	}
+	return last, nil
 }
 
 // Len is how many records there are. The error is ErrBadArgument for a resumed log.

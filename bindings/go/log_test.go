@@ -26,6 +26,9 @@ func TestRecordsAndReleases(t *testing.T) {
 	log := logOf(made)
 	defer log.Close()
 	equal(t, must(log.Len()), 4)
+	equal(t, *must(log.Last()), weoldrin.Last{Timestamp: start, Version: 1, Count: 4})
+	equal(t, *must(must(weoldrin.PackageLogFromJSON(must(log.ToJSON()))).Last()), weoldrin.Last{Timestamp: start, Version: 1, Count: -1})
+	equal(t, must(logOf(nil).Last()), nil)
 	for place, it := range must(log.Records()) {
 		if !bytes.Equal(it.Envelope, made[place]) {
 			t.Errorf("another envelope at %d", place)

@@ -54,19 +54,75 @@ func VerifyAbsence(logID, root, proof string) (bool, error) {
 	return shown(status, mapTree, text)
 }
 
+// ShownLeaf is a leaf, and the proof that is to show it in the log of a checkpoint, as VerifyInclusion takes it. Of the
+// checkpoint the length and the root of the log are looked at.
+type ShownLeaf struct {
+	Checkpoint Checkpoint
+	LogID      string
+	RecordID   string
+	Proof      string
+}
+
+// CompareCheckpoints is how a checkpoint of a registry compares with an older one, by a proof as VerifyConsistency
+// takes it, which is looked at where the newer log is longer, and may be the empty text elsewhere. Their times are not
+// compared, and whether they are signed is for an OperatorLog to say. The error is one as VerifyInclusion returns it.
+func CompareCheckpoints(older, newer Checkpoint, proof string) (CheckpointComparison, error) {
+	oldLog, oldMap, text := []byte(older.LogRoot), []byte(older.MapRoot), []byte(proof)
+	newLog, newMap := []byte(newer.LogRoot), []byte(newer.MapRoot)
+	var found C.uint32_t
+	status := C.warg_compare_checkpoints(
+		C.uint64_t(older.LogLength), at(oldLog), size(oldLog), at(oldMap), size(oldMap),
+		C.uint64_t(newer.LogLength), at(newLog), size(newLog), at(newMap), size(newMap),
+		at(text), size(text), &found)
+	if uint32(status) != ok {
+		return 0, misused(status, logTree, text)
+	}
+	return CheckpointComparison(found), nil
+}
+
+// CompareLeaves is how the leaves compare that are shown at one place of a registry's log under two checkpoints, as two
+// clients may have been shown them. Neither checkpoint has to be the older one. The error is one as VerifyInclusion
+// returns it.
+func CompareLeaves(place uint64, older, newer ShownLeaf) (LeafComparison, error) {
+	oldRoot, oldLog, oldRecord := []byte(older.Checkpoint.LogRoot), []byte(older.LogID), []byte(older.RecordID)
+	newRoot, newLog, newRecord := []byte(newer.Checkpoint.LogRoot), []byte(newer.LogID), []byte(newer.RecordID)
+	oldProof, newProof := []byte(older.Proof), []byte(newer.Proof)
+	var found C.uint32_t
+	status := C.warg_compare_leaves(C.uint64_t(place),
+		C.uint64_t(older.Checkpoint.LogLength), at(oldRoot), size(oldRoot), at(oldLog), size(oldLog),
+		at(oldRecord), size(oldRecord), at(oldProof), size(oldProof),
+		C.uint64_t(newer.Checkpoint.LogLength), at(newRoot), size(newRoot), at(newLog), size(newLog),
+		at(newRecord), size(newRecord), at(newProof), size(newProof), &found)
+	if uint32(status) != ok {
+		return 0, misused(status, logTree, oldProof, newProof)
+	}
+	return LeafComparison(found), nil
+}
+
 // shown is the answer of a call on a proof: where an argument is bad and that is the proof, its fault is told.
 func shown(status rawStatus, tree C.uint32_t, proof []byte) (bool, error) {
 	if uint32(status) != badArgument {
 		return holds(status, "")
 	}
-	fault, found, err := filled(0, "", func(to []byte, used *rawSize) rawStatus {
-		return C.warg_proof_fault(tree, at(proof), size(proof), at(to), size(to), used)
-	})
-	if err != nil {
-		return false, err
+	return false, misused(status, tree, proof)
+}
+
+// misused is the error of a status: of a bad argument the fault of the first of the proofs that has one, or else that of
+// another text.
+func misused(status rawStatus, tree C.uint32_t, proofs ...[]byte) error {
+	if uint32(status) != badArgument {
+		return errorOf(uint32(status), "", "")
 	}
-	if found {
-		return false, errorNamed(ErrBadArgument, string(fault))
+	for _, proof := range proofs {
+		fault, found, err := filled(0, "", func(to []byte, used *rawSize) rawStatus {
+			return C.warg_proof_fault(tree, at(proof), size(proof), at(to), size(to), used)
+		})
+		if err != nil {
+			return err
+		}
+		if found {
+			return errorNamed(ErrBadArgument, string(fault))
+		}
 	}
-	return false, errorNamed(ErrBadArgument, badText)
+	return errorNamed(ErrBadArgument, badText)
 }

@@ -9,7 +9,7 @@ import (
 )
 
 // RegistryTrees are the trees of a registry, for who keeps one: the log of all leaves, and the map of the heads of
-// logs. Make them by NewRegistryTrees: RegistryTrees by themselves are not open. Each proof is one that
+// logs. Make them by NewRegistryTrees or RegistryTreesFromBytes: RegistryTrees by themselves are not open. Each proof is one that
 // VerifyInclusion, VerifyConsistency, VerifyPresence or VerifyAbsence takes under the Checkpoint of the moment. Whether
 // a record may come next is for its own log to say: push what a PackageLog or an OperatorLog has taken.
 //
@@ -24,15 +24,33 @@ type RegistryTrees struct {
 
 const (
 	badID       = "BadText: an id is not the text of one"
+	badLength   = "BadLength: the bytes are no multiple of 64"
 	closedTrees = "NotOpen: the trees were closed, or were never opened"
 )
 
 // NewRegistryTrees are the trees of no leaves.
 func NewRegistryTrees() (*RegistryTrees, error) {
+	return newTrees("", func(raw *rawRegistry) rawStatus { return C.warg_registry_open(raw) })
+}
+
+// RegistryTreesFromBytes are the trees of the leaves that ToBytes gave, or of the first of them, made anew. This costs
+// less than to push them, since the map is made of the last record of each log alone. The error is ErrBadArgument, by
+// the name BadLength, where the bytes are no multiple of 64.
+func RegistryTreesFromBytes(saved []byte) (*RegistryTrees, error) {
+	return newTrees(badLength, func(raw *rawRegistry) rawStatus {
+		return C.warg_registry_resume(raw, at(saved), size(saved))
+	})
+}
+
+// newTrees are trees that a call begins, with what is said of a bad argument.
+func newTrees(misuse string, begin func(raw *rawRegistry) rawStatus) (*RegistryTrees, error) {
 	calls := make(chan func(*rawRegistry))
 	go serve(calls)
 	trees := &RegistryTrees{calls: calls}
-	err := trees.done(func(raw *rawRegistry) rawStatus { return C.warg_registry_open(raw) })
+	err := trees.together(func(raw *rawRegistry) error {
+		_, err := done(begin(raw), misuse)
+		return err
+	})
 	if err != nil {
 		_ = trees.Close()
 		return nil, err
@@ -78,6 +96,22 @@ func (t *RegistryTrees) Push(logID, recordID string) (uint64, error) {
 		return C.warg_registry_push(raw, at(log), size(log), at(record), size(record), &place)
 	})
 	return uint64(place), err
+}
+
+// ToBytes are the leaves, as RegistryTreesFromBytes takes them: 64 bytes for each, in the order in which they were
+// pushed, the 32 of its log's id and the 32 of its record's. So who keeps them may as well append 64 bytes for each leaf
+// that is pushed.
+func (t *RegistryTrees) ToBytes() (saved []byte, err error) {
+	err = t.together(func(raw *rawRegistry) (err error) {
+		var length C.uint64_t
+		if _, err = done(C.warg_registry_length(raw, &length), ""); err == nil {
+			saved, _, err = filled(64*int(length), "", func(to []byte, used *rawSize) rawStatus {
+				return C.warg_registry_save(raw, at(to), size(to), used)
+			})
+		}
+		return err
+	})
+	return saved, err
 }
 
 // Len is how many leaves there are.

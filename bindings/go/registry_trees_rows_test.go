@@ -10,13 +10,18 @@ import (
 )
 
 // rootsAnswer is what trees of leaves answer to a row that asks for their roots or proofs, and whether it does. The
-// leaves are pairs of words, behind a word for a proof.
-func rootsAnswer(topic string, words []string) (answer string, isPlayed bool) {
+// leaves are pairs of words, behind a word for a proof. They are pushed, or trees are made of them that were saved.
+func rootsAnswer(topic string, words []string, areSaved bool) (answer string, isPlayed bool) {
 	trees := must(weoldrin.NewRegistryTrees())
-	defer trees.Close()
+	defer func() { trees.Close() }()
 	push := func(words []string) {
 		for place := 0; place < len(words); place += 2 {
 			must(trees.Push(words[place], words[place+1]))
+		}
+		if areSaved {
+			saved := must(trees.ToBytes())
+			_ = trees.Close()
+			trees = must(weoldrin.RegistryTreesFromBytes(saved))
 		}
 	}
 	number := func() uint64 { return must(strconv.ParseUint(words[0], 10, 64)) }
@@ -49,18 +54,20 @@ func TestRegistryTreesRows(t *testing.T) {
 		for _, block := range must(rows.Blocks(path)) {
 			row := must(rows.RowOf(block.Text))
 			words := rows.WordsOf(row.Question)
-			answer, isPlayed := rootsAnswer(words[0], words[1:])
-			if !isPlayed {
-				continue
-			}
-			played++
-			if seen := "= " + rows.Quoted(answer); seen != row.Wanted {
-				t.Errorf("%s:%d: seen %s, wanted %s", path, block.Number, seen, row.Wanted)
+			for _, areSaved := range []bool{false, true} {
+				answer, isPlayed := rootsAnswer(words[0], words[1:], areSaved)
+				if !isPlayed {
+					break
+				}
+				played++
+				if seen := "= " + rows.Quoted(answer); seen != row.Wanted {
+					t.Errorf("%s:%d: seen %s, wanted %s", path, block.Number, seen, row.Wanted)
+				}
 			}
 		}
 	}
 	fmt.Printf("%d rows of roots and proofs played\n", played)
-	if played < 46 {
+	if played < 2*46 {
 		t.Errorf("%d rows are too few", played)
 	}
 }

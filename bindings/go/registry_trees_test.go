@@ -178,6 +178,67 @@ func allOf(trees *weoldrin.RegistryTrees) (all []any) {
 	return all
 }
 
+// savedOf are the bytes of so many leaves of treesOf.
+func savedOf(size int) (saved []byte) {
+	for place := 0; place < size; place++ {
+		log, record := hashOf(logNumber(place%3)), hashOf(recordNumber(place))
+		saved = append(append(saved, log[:]...), record[:]...)
+	}
+	return saved
+}
+
+// Trees that are made of the bytes of leaves are those to which the leaves were pushed, and go on as they do.
+func TestSavedLeaves(t *testing.T) {
+	for size := 0; size < 40; size++ {
+		pushed, made := treesOf(size), must(weoldrin.RegistryTreesFromBytes(savedOf(size + 3)[:64*size]))
+		for next := size; next < size+3; next++ {
+			equal(t, reflect.DeepEqual(allOf(made), allOf(pushed)), true)
+			equal(t, string(must(made.ToBytes())), string(savedOf(next)))
+			equal(t, string(must(pushed.ToBytes())), string(savedOf(next)))
+			equal(t, must(made.Push(logNumber(next%3), recordNumber(next))), uint64(next))
+			must(pushed.Push(logNumber(next%3), recordNumber(next)))
+		}
+		succeeds(t, made.Close())
+		succeeds(t, pushed.Close())
+	}
+}
+
+// A leaf may come twice, and a head come back.
+func TestSavedLeavesThatComeAgain(t *testing.T) {
+	b := newBoth()
+	defer b.trees.Close()
+	for _, it := range [][2]int{{1, 7}, {1, 7}, {1, 8}, {2, 8}, {1, 8}, {1, 7}} {
+		b.push(t, logNumber(it[0]), recordNumber(it[1]))
+	}
+	saved := must(b.trees.ToBytes())
+	made := must(weoldrin.RegistryTreesFromBytes(saved))
+	defer made.Close()
+	// What was given and what was taken is not looked at again.
+	copied := append([]byte{}, saved...)
+	saved[0] ^= 1
+	equal(t, string(must(made.ToBytes())), string(copied))
+	equal(t, reflect.DeepEqual(allOf(made), allOf(b.trees)), true)
+	other := &both{trees: made, wanted: b.wanted, leaves: b.leaves}
+	other.haveSameRoots(t, 3)
+	other.haveSameLog(t)
+	for number := 0; number < 4; number++ {
+		other.haveSameHead(t, logNumber(number))
+	}
+}
+
+// Bytes that are no multiple of 64 are no leaves.
+func TestBytesOfNoLeaves(t *testing.T) {
+	for _, length := range []int{1, 31, 32, 63, 65, 127, 640 + 32} {
+		trees, err := weoldrin.RegistryTreesFromBytes(make([]byte, length))
+		isRefused(t, err, weoldrin.ErrBadArgument, "BadLength")
+		equal(t, trees == nil, true)
+	}
+	none := must(weoldrin.RegistryTreesFromBytes(nil))
+	defer none.Close()
+	equal(t, must(none.Len()), 0)
+	equal(t, len(must(none.ToBytes())), 0)
+}
+
 // A push that is refused leaves all as it was.
 func TestTextsOfNoID(t *testing.T) {
 	for _, size := range []int{0, 1, 7} {
@@ -237,6 +298,9 @@ func TestClosedTrees(t *testing.T) {
 			equal(t, found, false)
 			_, err = trees.Head(logNumber(0))
 			isRefused(t, err, weoldrin.ErrNotOpen, "NotOpen")
+			saved, err := trees.ToBytes()
+			isRefused(t, err, weoldrin.ErrNotOpen, "NotOpen")
+			equal(t, saved == nil, true)
 		}
 	}
 }

@@ -42,6 +42,28 @@ func verified(topic string, words []string) (holds bool, err error, isPlayed boo
 	return holds, err, isPlayed
 }
 
+// comparedAs is what a comparison says in place of a verifier, where one does: of a checkpoint that goes on, and of a
+// leaf that is shown twice.
+func comparedAs(topic string, words []string) (holds bool, err error, isPlayed bool) {
+	number := func(place int) uint64 { return must(strconv.ParseUint(words[place], 10, 64)) }
+	switch {
+	case topic == "verify-inclusion":
+		shown := weoldrin.ShownLeaf{
+			Checkpoint: weoldrin.Checkpoint{LogRoot: words[4], LogLength: number(3), MapRoot: anyHash},
+			LogID:      words[0], RecordID: words[1], Proof: words[5],
+		}
+		found, err := weoldrin.CompareLeaves(number(2), shown, shown)
+		return found == weoldrin.LeafSame, err, found != weoldrin.LeafFork
+	case topic == "verify-consistency" && number(0) < number(2):
+		older := weoldrin.Checkpoint{LogRoot: words[1], LogLength: number(0), MapRoot: anyHash}
+		newer := weoldrin.Checkpoint{LogRoot: words[3], LogLength: number(2), MapRoot: anyHash}
+		found, err := weoldrin.CompareCheckpoints(older, newer, words[4])
+		return found == weoldrin.CheckpointGoesOn, err, true
+	default:
+		return false, nil, false
+	}
+}
+
 // seen is the answer to a row. Of a text that is no hash the library names no fault: then the wanted one is taken for
 // it.
 func seen(topic string, words []string, wanted string, holds bool, err error) string {
@@ -77,6 +99,9 @@ func TestTransparencyRows(t *testing.T) {
 				continue
 			}
 			played++
+			if holds, err, isCompared := comparedAs(words[0], words[1:]); isCompared {
+				equal(t, seen(words[0], words[1:], row.Wanted, holds, err), row.Wanted)
+			}
 			if it := seen(words[0], words[1:], row.Wanted, holds, err); it != row.Wanted {
 				t.Errorf("%s:%d: seen %s, wanted %s", path, block.Number, it, row.Wanted)
 			}

@@ -94,6 +94,16 @@ type Release struct {
 	YankedTimestamp time.Time
 }
 
+// Last is what is known of a log's last record beside its id.
+type Last struct {
+	// Timestamp is its time.
+	Timestamp time.Time
+	// Version is its version of the protocol.
+	Version uint32
+	// Count is how many records the log has, or -1 where it was resumed.
+	Count int
+}
+
 // Namespace is what a namespace is.
 type Namespace struct {
 	// Imported is whether its packages are those of another registry. Otherwise it is the registry's own.
@@ -149,4 +159,52 @@ type Comparison struct {
 	Relation Relation
 	Left     int
 	Right    int
+}
+
+// CheckpointComparison is how one checkpoint of a registry compares with an older one.
+type CheckpointComparison uint32
+
+const (
+	// CheckpointSame is where the lengths and both roots are equal.
+	CheckpointSame CheckpointComparison = 0
+	// CheckpointGoesOn is where the newer log is longer, and the proof shows that it begins with the older one.
+	CheckpointGoesOn CheckpointComparison = 1
+	// CheckpointGoesBack is where the newer log is shorter than the older one: a rollback.
+	CheckpointGoesBack CheckpointComparison = 2
+	// CheckpointFork is where the lengths are equal and a root differs: no list of leaves has both. Two signatures show
+	// that the registry forked.
+	CheckpointFork CheckpointComparison = 3
+	// CheckpointNotShown is where the newer log is longer, and the proof does not show that it begins with the older one.
+	CheckpointNotShown CheckpointComparison = 4
+)
+
+// String is the name of a comparison.
+func (c CheckpointComparison) String() string {
+	names := []string{"same", "goes on", "goes back", "fork", "not shown"}
+	if int(c) < len(names) {
+		return names[c]
+	}
+	return fmt.Sprintf("CheckpointComparison(%d)", uint32(c))
+}
+
+// LeafComparison is how the leaves compare that are shown at one place of a registry's log under two checkpoints.
+type LeafComparison uint32
+
+const (
+	// LeafSame is where both proofs hold, and the leaves are one.
+	LeafSame LeafComparison = 0
+	// LeafFork is where both proofs hold, and the leaves differ: neither log begins with the other one, or two strings
+	// collide.
+	LeafFork LeafComparison = 1
+	// LeafNotShown is where one of the proofs does not hold.
+	LeafNotShown LeafComparison = 2
+)
+
+// String is the name of a comparison.
+func (c LeafComparison) String() string {
+	names := []string{"same", "fork", "not shown"}
+	if int(c) < len(names) {
+		return names[c]
+	}
+	return fmt.Sprintf("LeafComparison(%d)", uint32(c))
 }

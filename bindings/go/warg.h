@@ -27,8 +27,8 @@
  *
  * What every call keeps. It returns a status. At any status but WARG_OK all logs and registries stay as they were. Calls that only look also
  * leave them so at WARG_OK. All texts are UTF-8, with no zero byte behind them. WARG_OUT_OF_MEMORY is an answer of calls that take memory
- * alone, and only where they came to take some: `warg_length`, `warg_compare`, `warg_registry_length`, `warg_version` and `warg_status_name` never
- * do.
+ * alone, and only where they came to take some: `warg_length`, `warg_head_of`, `warg_compare`, `warg_registry_length`, `warg_version` and
+ * `warg_status_name` never do.
  *
  * Calls that give bytes write them to the start of the caller's buffer, and to `used` how many they are. What stands behind them stays as it
  * was:
@@ -112,6 +112,30 @@ enum warg_comparison_case {
     WARG_COLLISION = 4
 };
 
+/* How one checkpoint of a registry compares with an older one. */
+enum warg_checkpoint_case {
+    /* The lengths and both roots are equal. */
+    WARG_CHECKPOINT_SAME = 0,
+    /* The log is longer, and the proof shows that it begins with the older one's. */
+    WARG_CHECKPOINT_GOES_ON = 1,
+    /* The log is shorter than the older one's. */
+    WARG_CHECKPOINT_GOES_BACK = 2,
+    /* The lengths are equal and a root differs: no list of leaves has both. Two signatures show that the registry forked. */
+    WARG_CHECKPOINT_FORK = 3,
+    /* The log is longer, and the proof does not show that it begins with the older one's. */
+    WARG_CHECKPOINT_NOT_SHOWN = 4
+};
+
+/* How the leaves compare that are shown at one place of a registry's log. */
+enum warg_leaf_case {
+    /* Both proofs hold, and the leaves are one. */
+    WARG_LEAF_SAME = 0,
+    /* Both proofs hold, and the leaves differ: neither log begins with the other one, or two strings collide. */
+    WARG_LEAF_FORK = 1,
+    /* One of the proofs does not hold. */
+    WARG_LEAF_NOT_SHOWN = 2
+};
+
 /* A log, or none: all bytes 0 is none. */
 struct warg_log {
     void *at;
@@ -129,6 +153,17 @@ struct warg_asked {
 struct warg_kept {
     size_t envelope_len;
     size_t id_len;
+};
+
+/* The time of a log's last record, in seconds and nanoseconds since 1970, its version, and how many records the log has. */
+struct warg_head {
+    int64_t seconds;
+    /* 0 where the log was resumed. */
+    size_t count;
+    uint32_t nanos;
+    uint32_t version;
+    /* 1 if `count` says how many records there are, 0 where the log was resumed. */
+    uint32_t is_counted;
 };
 
 /* A release. Its texts stand one behind the other: the version, the id of the record that released it, the id of the key that signed that
@@ -243,6 +278,11 @@ uint32_t warg_verify(const uint8_t *key, size_t key_len, const uint8_t *message,
 /* The text of the id of the last record.
  *   WARG_NONE: there was no record yet. */
 uint32_t warg_head(struct warg_log *log, uint8_t *text, size_t text_len, size_t *used);
+
+/* The time and the version of the last record, and how many records there are, as far as that is known. Its id is told by
+ * `warg_head`.
+ *   WARG_NONE: there was no record yet. */
+uint32_t warg_head_of(struct warg_log *log, struct warg_head *head);
 
 /* How many records the log has.
  *   WARG_BAD_ARGUMENT: the log was resumed. */
@@ -390,10 +430,32 @@ uint32_t warg_verify_absence(const uint8_t *log_id, size_t log_id_len, const uin
  *   WARG_BAD_ARGUMENT (NoTree): no such tree. */
 uint32_t warg_proof_fault(uint32_t tree, const uint8_t *proof, size_t proof_len, uint8_t *text, size_t text_len, size_t *used);
 
+/* Whether what a registry said twice goes together. These are functions of their arguments alone, as those of proofs are, and ask the registry
+ * for nothing. Two clients tell a fork by them from what each was shown.
+ *   WARG_OK: `comparison` says how the two compare.
+ *   WARG_BAD_ARGUMENT: a text is not of its form. `warg_proof_fault` says what is wrong with a proof's.
+ *   WARG_OUT_OF_MEMORY: nothing is said. The texts of the hashes before the first proof are of their form. */
+
+/* Compares two checkpoints of a registry, by a proof of consistency as `warg_verify_consistency` takes it. It is looked at where the newer log
+ * is longer, and may be "" elsewhere. Their times are not compared.
+ *   WARG_OK: `comparison` is one of `enum warg_checkpoint_case`. */
+uint32_t warg_compare_checkpoints(uint64_t old_length, const uint8_t *old_log_root, size_t old_log_root_len,
+                                  const uint8_t *old_map_root, size_t old_map_root_len, uint64_t new_length,
+                                  const uint8_t *new_log_root, size_t new_log_root_len, const uint8_t *new_map_root,
+                                  size_t new_map_root_len, const uint8_t *proof, size_t proof_len, uint32_t *comparison);
+
+/* Compares the leaves that two clients were shown at one place of a registry's log, each by a proof of inclusion under a checkpoint of its own, as
+ * `warg_verify_inclusion` takes it. The lengths may differ.
+ *   WARG_OK: `comparison` is one of `enum warg_leaf_case`. */
+uint32_t warg_compare_leaves(uint64_t place, uint64_t old_length, const uint8_t *old_root, size_t old_root_len,
+                             const uint8_t *old_log_id, size_t old_log_id_len, const uint8_t *old_record_id,
+                             size_t old_record_id_len, const uint8_t *old_proof, size_t old_proof_len, uint64_t new_length,
+                             const uint8_t *new_root, size_t new_root_len, const uint8_t *new_log_id, size_t new_log_id_len,
+                             const uint8_t *new_record_id, size_t new_record_id_len, const uint8_t *new_proof,
+                             size_t new_proof_len, uint32_t *comparison);
+
 /* The trees of a registry, for who keeps one: the log of all leaves, and the map of the heads of logs. Ids are texts
- * of ids, roots are texts of hashes (`sha256:` and 64 digits of hex), proofs are texts of base64. Each proof is one
- * that `warg_verify_inclusion`, `warg_verify_consistency`, `warg_verify_presence` or `warg_verify_absence` takes under
- * the roots and the length of the moment. */
+ * of ids, roots are texts of hashes (`sha256:` and 64 digits of hex). */
 
 /* Begins a registry of no leaves. One that was open is closed first.
  *   WARG_OUT_OF_MEMORY: the registry is as it was, open if it was open. */
@@ -418,6 +480,10 @@ uint32_t warg_registry_length(struct warg_registry *registry, uint64_t *length);
 uint32_t warg_registry_roots(struct warg_registry *registry, uint8_t *text, size_t text_len, size_t *used,
                              struct warg_roots *roots);
 
+/* Proofs under the trees of a registry, as texts of base64. Each is one that `warg_verify_inclusion`,
+ * `warg_verify_consistency`, `warg_verify_presence` or `warg_verify_absence` takes under the roots and the length of
+ * the moment. */
+
 /* The proof that the leaf at a place is in the log of all leaves of the moment, as `warg_verify_inclusion` takes it.
  *   WARG_NONE: there is no leaf at this place. */
 uint32_t warg_registry_inclusion(struct warg_registry *registry, uint64_t place, uint8_t *text, size_t text_len, size_t *used);
@@ -434,6 +500,19 @@ uint32_t warg_registry_consistency(struct warg_registry *registry, uint64_t firs
  *   WARG_BAD_ARGUMENT: the text is none of an id; nothing is told of it. */
 uint32_t warg_registry_head(struct warg_registry *registry, const uint8_t *log_id, size_t log_id_len, uint8_t *text,
                             size_t text_len, size_t *used, struct warg_log_head *head);
+
+/* Saving the leaves of a registry, and beginning with them. */
+
+/* The leaves of a registry, for `warg_registry_resume`: 64 bytes for each, in the order in which they were pushed, the 32 of
+ * its log's id and the 32 of its record's. So who keeps them may as well append 64 bytes for each leaf that is pushed. */
+uint32_t warg_registry_save(struct warg_registry *registry, uint8_t *bytes, size_t bytes_len, size_t *used);
+
+/* Begins a registry of the leaves that `warg_registry_save` gave, or of those of the first of them. One that was open is
+ * closed first. All hashes are made anew: two for each leaf, and the map's for each log once, so that this costs less than
+ * to push them.
+ *   WARG_OUT_OF_MEMORY: the registry is as it was, open if it was open.
+ *   WARG_BAD_ARGUMENT: the bytes are no multiple of 64; the registry is as it was. */
+uint32_t warg_registry_resume(struct warg_registry *registry, const uint8_t *saved, size_t saved_len);
 
 /* Signed checkpoints of a registry. What a checkpoint says is given by itself: the length of the registry's log in leaves, the texts of the
  * roots of its log and of its map, and the time in whole seconds since 1970. */

@@ -88,6 +88,31 @@ class Trees(unittest.TestCase):
         self.assertEqual(self.stored.asked, [(43, 7)])
         self.assertEqual(self._threads(), ["weoldrin registry"])
 
+    def test_they_are_made_at_once(self) -> None:
+        """Of leaves that are read in pieces, without a push for each; ids may have capitals."""
+        log_id, record_id = self.stored.all[7]
+        self.stored.all[7] = log_id[:7] + log_id[7:].upper(), record_id[:7] + record_id[7:].upper()
+        with mock.patch.object(RegistryTrees, "push_all", side_effect=AssertionError):
+            trees = self.made._trees_of(43)
+        self.assertEqual(self.stored.asked, [(0, 10), (10, 10), (20, 10), (30, 10), (40, 3)])
+        self.stored.all[7] = log_id, record_id
+        self._check(trees, 43)
+        with RegistryTrees() as pushed:
+            pushed.push_all(self.stored.all[:43])
+            self.assertEqual(trees.to_bytes(), pushed.to_bytes())
+            self.assertEqual(trees.consistency(17), pushed.consistency(17))
+        # From here on each new leaf is pushed.
+        with mock.patch.object(RegistryTrees, "from_bytes", side_effect=AssertionError):
+            self._check(self.made._trees_of(50), 50)
+
+    def test_one_log(self) -> None:
+        """Of many records, each of which is the last one of a time."""
+        log_id = BY.id_of("log")
+        self.stored.all = [(log_id, BY.id_of(f"record {it}")) for it in range(50)]
+        for length in (1, 50, 12, 13):
+            self._check(self.made._trees_of(length), length)
+            self.assertEqual(self.made._trees_of(length).head(log_id).record_id, BY.id_of(f"record {length - 1}"))
+
     def test_they_are_made_anew(self) -> None:
         many = self.made._trees_of(43)
         few = self.made._trees_of(12)
@@ -97,18 +122,21 @@ class Trees(unittest.TestCase):
         self.assertEqual(self._threads(), ["weoldrin registry"])
 
     def test_other_leaves(self) -> None:
-        """They are told, and no trees are left that have some of them."""
+        """They are told, and no trees are left that have some of them: whether they go on or are made anew."""
         log_id, record_id = self.stored.all[15]
         for length, leaf, sentence in (
             (60, (log_id, record_id), "there are fewer than 60 leaves"),
             (20, ("", record_id), "a leaf behind the first 10 is none"),
             (20, (log_id, "record"), "a leaf behind the first 10 is none"),
         ):
-            self.stored.all[15] = leaf
-            with self.assertRaisesRegex(Damaged, sentence), self.made._kept_whole():
-                self.made._trees_of(length)
-            self.assertIsNone(self.made._trees)
-            self.assertEqual(self._threads(), [])
+            for before in (0, 10):
+                self.stored.all[15] = leaf
+                with self.assertRaisesRegex(Damaged, sentence), self.made._kept_whole():
+                    if before:
+                        self.made._trees_of(before)
+                    self.made._trees_of(length)
+                self.assertIsNone(self.made._trees)
+                self.assertEqual(self._threads(), [])
         self._check(self.made._trees_of(15), 15)
 
     def test_memory(self) -> None:
@@ -118,6 +146,10 @@ class Trees(unittest.TestCase):
             with self.assertRaises(OutOfMemory), self.made._kept_whole():
                 self.made._trees_of(30)
         self.assertRaises(NotOpen, len, trees)
+        with mock.patch.object(RegistryTrees, "from_bytes", side_effect=OutOfMemory):
+            with self.assertRaises(OutOfMemory), self.made._kept_whole():
+                self.made._trees_of(30)
+        self.assertIsNone(self.made._trees)
         self._check(self.made._trees_of(30), 30)
 
     def test_they_are_closed(self) -> None:

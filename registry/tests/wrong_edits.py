@@ -229,7 +229,18 @@ WRONG: dict[str, Wrong] = {
     "trees of more leaves are taken": (
         "checkpoints.py", "len(self._trees) > length:", "False:", f"{TREES}.test_they_are_made_anew"),
     "trees are made anew each time": (
-        "checkpoints.py", "self._trees or RegistryTrees()", "RegistryTrees()", f"{TREES}.test_they_go_on"),
+        "checkpoints.py", "        if self._trees is None:\n            saved", "        if True:\n            saved",
+        f"{TREES}.test_they_go_on"),
+    "trees are made by a push for each leaf": (
+        "checkpoints.py", "        if self._trees is None:\n            saved",
+        "        self._trees = self._trees or RegistryTrees()\n        if False:\n            saved",
+        f"{TREES}.test_they_are_made_at_once"),
+    "trees are made of the last leaves that were read": (
+        "checkpoints.py", "saved.extend(saved_leaves(leaves))", "saved.__init__(saved_leaves(leaves))",
+        f"{TREES}.test_they_are_made_at_once"),
+    "the last leaves are read again and again": (
+        "checkpoints.py", "start += len(leaves)", "start += max(1, len(leaves) - 1)",
+        f"{TREES}.test_they_are_made_at_once"),
     "trees that are dropped stay open": (
         "checkpoints.py", "            self._trees.close()\n", "            pass\n",
         f"{TREES}.test_they_are_made_anew"),

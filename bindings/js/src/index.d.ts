@@ -1,5 +1,5 @@
 /** Checks the logs of a Warg package registry by a proved library, which verifies signatures of ECDSA P-256. */
-import type { TimestampedCheckpoint } from "./checkpoints.js";
+import type { Checkpoint, TimestampedCheckpoint } from "./checkpoints.js";
 
 /** Bytes: a `Uint8Array`, another view, or a buffer. */
 export type Bytes = ArrayBuffer | SharedArrayBuffer | ArrayBufferView;
@@ -30,6 +30,16 @@ export type Verify = (question: Question) => boolean | Promise<boolean>;
 export interface Record {
   readonly envelope: Uint8Array;
   readonly id: string;
+}
+
+/** What is known of a log's last record beside its id. */
+export interface Last {
+  /** Its time, in nanoseconds since 1970. */
+  readonly timestamp: bigint;
+  /** Its version of the protocol. */
+  readonly version: number;
+  /** How many records the log has; null where it was resumed. */
+  readonly count: number | null;
 }
 
 /** A release. Times are those of the records, in nanoseconds since 1970. */
@@ -74,6 +84,40 @@ export interface Comparison {
   readonly relation: Relation;
   readonly left: number;
   readonly right: number;
+}
+
+/** How one checkpoint of a registry compares with an older one. */
+export const CheckpointComparison: {
+  /** The lengths and both roots are equal. */
+  readonly SAME: "same";
+  /** The newer log is longer, and the proof shows that it begins with the older one. */
+  readonly GOES_ON: "goes-on";
+  /** The newer log is shorter than the older one: a rollback. */
+  readonly GOES_BACK: "goes-back";
+  /** The lengths are equal and a root differs: no list of leaves has both. Two signatures show that it forked. */
+  readonly FORK: "fork";
+  /** The newer log is longer, and the proof does not show that it begins with the older one. */
+  readonly NOT_SHOWN: "not-shown";
+};
+export type CheckpointComparison = "same" | "goes-on" | "goes-back" | "fork" | "not-shown";
+
+/** How the leaves compare that are shown at one place of a registry's log under two checkpoints. */
+export const LeafComparison: {
+  /** Both proofs hold, and the leaves are one. */
+  readonly SAME: "same";
+  /** Both proofs hold, and the leaves differ: neither log begins with the other one, or two strings collide. */
+  readonly FORK: "fork";
+  /** One of the proofs does not hold. */
+  readonly NOT_SHOWN: "not-shown";
+};
+export type LeafComparison = "same" | "fork" | "not-shown";
+
+/** A leaf, and the proof that is to show it in the log of a checkpoint, as `verifyInclusion` takes it. */
+export interface ShownLeaf {
+  readonly checkpoint: Checkpoint;
+  readonly logId: string;
+  readonly recordId: string;
+  readonly proof: string;
 }
 
 /** Where the library's module is had from: an address, a response, its bytes, or the module. */
@@ -125,6 +169,10 @@ export class Library {
   ): boolean;
   verifyPresence(logId: string, recordId: string, root: string, proof: string): boolean;
   verifyAbsence(logId: string, root: string, proof: string): boolean;
+  /** How a checkpoint compares with an older one, by a proof as `verifyConsistency` takes it. */
+  compareCheckpoints(oldCheckpoint: Checkpoint, newCheckpoint: Checkpoint, proof?: string): CheckpointComparison;
+  /** How the leaves compare that two clients were shown at one place, under checkpoints of any lengths. */
+  compareLeaves(place: number | bigint, oldLeaf: ShownLeaf, newLeaf: ShownLeaf): LeafComparison;
 }
 
 /** A log of either kind; make a `PackageLog` or an `OperatorLog`. */
@@ -148,6 +196,8 @@ export abstract class Log {
   append(envelope: Bytes, verify?: Verify | null): Promise<void>;
   /** The id of the last record; null before any. */
   head(): string | null;
+  /** The time and the version of the last record, and how many records there are; null before any. */
+  last(): Last | null;
   /** How many records there are. A resumed log does not know, and throws `BadArgument`. */
   readonly length: number;
   /** The record at a place, from 0; null if the log has none there. */
@@ -229,6 +279,18 @@ export function verifyPresence(
   options?: OfLibrary,
 ): Promise<boolean>;
 export function verifyAbsence(logId: string, root: string, proof: string, options?: OfLibrary): Promise<boolean>;
+export function compareCheckpoints(
+  oldCheckpoint: Checkpoint,
+  newCheckpoint: Checkpoint,
+  proof?: string,
+  options?: OfLibrary,
+): Promise<CheckpointComparison>;
+export function compareLeaves(
+  place: number | bigint,
+  oldLeaf: ShownLeaf,
+  newLeaf: ShownLeaf,
+  options?: OfLibrary,
+): Promise<LeafComparison>;
 
 /** What a call is refused for: `name` and `sentence` are the library's own, and `message` is what can be printed. */
 export class WeoldrinError extends Error {

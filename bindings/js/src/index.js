@@ -27,6 +27,8 @@ export { auditMany } from "./many.js";
 export { printable } from "./printing.js";
 export {
   checkpointMessage,
+  compareCheckpoints,
+  compareLeaves,
   leaf,
   libraryVersion,
   logId,
@@ -38,4 +40,4 @@ export {
   verifyPresence,
 } from "./proofs.js";
 export { RegistryTrees } from "./registry.js";
-export { Kind, Relation, kindOf } from "./values.js";
+export { CheckpointComparison, Kind, LeafComparison, Relation, kindOf } from "./values.js";

@@ -16,7 +16,7 @@ import {
   WeoldrinError,
 } from "./errors.js";
 import { Memory, roomOfAll } from "./memory.js";
-import { KINDS, kindOf } from "./values.js";
+import { CHECKPOINT_COMPARISONS, KINDS, LEAF_COMPARISONS, kindOf } from "./values.js";
 
 export const [OK, TOO_SMALL, REFUSED, NONE, BAD_ARGUMENT] = [0, 3, 5, 6, 7];
 
@@ -44,6 +44,7 @@ const MISUSES = {
   record: RESUMED,
   registry_head: "BadText: an id is not the text of one",
   registry_push: "BadText: an id is not the text of one",
+  registry_resume: "BadLength: the bytes are no multiple of 64",
   release: "BadVersion: the text is no version, such as 1.2.0",
   verify: "BadText: the text of the key or of the signature can't be read",
   verify_checkpoint: "BadText: a root is not the text of one, or the key's id or the signature can't be read",
@@ -213,14 +214,63 @@ export class Library {
     return this.#shows("verify_absence", MAP_TREE, [logId, root, proof]);
   }
 
+  /**
+   * How a checkpoint of a registry compares with an older one, as one of `CheckpointComparison`, by a proof as
+   * `verifyConsistency` takes it, which is looked at where the newer log is longer. Their times are not compared, and
+   * whether they are signed is for an `OperatorLog` to say.
+   */
+  compareCheckpoints(oldCheckpoint, newCheckpoint, proof = "") {
+    const [older, newer] = [oldCheckpoint, newCheckpoint].map(({ logLength, logRoot, mapRoot }) => [
+      number(logLength),
+      logRoot,
+      mapRoot,
+    ]);
+    return CHECKPOINT_COMPARISONS[this.#compared("compare_checkpoints", [...older, ...newer, proof], [proof])];
+  }
+
+  /**
+   * How the leaves compare that are shown at one place of a registry's log under two checkpoints, as two clients may
+   * have been shown them, as one of `LeafComparison`. Neither checkpoint has to be the older one.
+   */
+  compareLeaves(place, oldLeaf, newLeaf) {
+    const [older, newer] = [oldLeaf, newLeaf].map(({ checkpoint: { logLength, logRoot }, logId, recordId, proof }) => [
+      number(logLength),
+      logRoot,
+      logId,
+      recordId,
+      proof,
+    ]);
+    const passed = [number(place), ...older, ...newer];
+    return LEAF_COMPARISONS[this.#compared("compare_leaves", passed, [oldLeaf.proof, newLeaf.proof])];
+  }
+
   #shows(name, tree, passed) {
-    const words = passed.map((it) => (typeof it === "bigint" ? it : utf8Of(it)));
-    const status = this.status(name, words);
-    if (status === BAD_ARGUMENT) {
-      const fault = this.filled("proof_fault", [tree, words.at(-1)]);
-      throw new BadArgument(fault ? textOf(fault) : "BadText: a root or an id is not the text of one");
-    }
+    const status = this.status(name, wordsIn(passed));
+    if (status === BAD_ARGUMENT) throw this.#misuse(tree, passed.slice(-1));
     return status === REFUSED ? false : this.isDone(name, status);
+  }
+
+  // The case of a comparison that has these proofs on the log.
+  #compared(name, passed, proofs) {
+    const words = wordsIn(passed);
+    let status;
+    const [found] = this.#whole(() => {
+      status = this.#run(`warg_${name}`, [...this.#passed(words), this.beside]);
+      return this.words(1);
+    });
+    if (status === BAD_ARGUMENT) throw this.#misuse(LOG_TREE, proofs);
+    this.isDone(name, status);
+    // It has 32 bits.
+    return Number(BigInt.asUintN(32, found));
+  }
+
+  // What is wrong with the arguments of a call: the fault of the first of its proofs that has one, or another text.
+  #misuse(tree, proofs) {
+    for (const it of proofs) {
+      const fault = this.filled("proof_fault", [tree, utf8Of(it)]);
+      if (fault) return new BadArgument(textOf(fault));
+    }
+    return new BadArgument("BadText: a root or an id is not the text of one");
   }
 
   // The rest is for the package's own files.
@@ -371,6 +421,9 @@ export function number(value) {
   if (whole < 0n || whole > GREATEST) throw new BadArgument(`OutOfRange: ${value} is not from 0 to ${GREATEST}`);
   return whole;
 }
+
+/** What calls are passed of texts, and of numbers that they take. */
+const wordsIn = (passed) => passed.map((it) => (typeof it === "bigint" ? it : utf8Of(it)));
 
 /** What calls are passed of a checkpoint with its time. Throws `BadArgument` where a number is none that they take. */
 export const wordsOf = ({ logRoot, logLength, mapRoot, timestamp }) => [

@@ -15,6 +15,15 @@ const SENTENCE = 1024;
 
 const CALLS = { open: "open", close: "close", made: "PackageLog", closed: "NotOpen: the log was closed" };
 
+const timeOf = (seconds, nanos) => BigInt.asIntN(64, seconds) * NANOS + nanos;
+
+const lastOf = ([seconds, count, nanosAndVersion, isCounted]) =>
+  Object.freeze({
+    timestamp: timeOf(seconds, nanosAndVersion & 0xffffffffn),
+    version: Number(nanosAndVersion >> 32n),
+    count: (isCounted & 0xffffffffn) !== 0n ? Number(count) : null,
+  });
+
 function releaseOf(text, [version, record, key, state, seconds, yankedSeconds, nanos, isYanked]) {
   const parts = [];
   let at = 0;
@@ -22,17 +31,16 @@ function releaseOf(text, [version, record, key, state, seconds, yankedSeconds, n
     parts.push(textOf(text.subarray(at, at + Number(length))));
     at += Number(length);
   }
-  const time = (whole, part) => BigInt.asIntN(64, whole) * NANOS + part;
   const yanked = (isYanked & 0xffffffffn) !== 0n;
   return Object.freeze({
     version: parts[0],
     recordId: parts[1],
     by: parts[2],
-    timestamp: time(seconds, nanos & 0xffffffffn),
+    timestamp: timeOf(seconds, nanos & 0xffffffffn),
     content: yanked ? null : parts[3],
     yanked,
     yankedBy: yanked ? parts[3] : null,
-    yankedTimestamp: yanked ? time(yankedSeconds, nanos >> 32n) : null,
+    yankedTimestamp: yanked ? timeOf(yankedSeconds, nanos >> 32n) : null,
   });
 }
 
@@ -147,6 +155,12 @@ export class Log extends Held {
   /** The id of the last record; null before any. */
   head() {
     return this.#text("head");
+  }
+
+  /** The time and the version of the last record, and how many records there are; null before any. */
+  last() {
+    const said = this.library.told("head_of", [this.#open()], 4);
+    return said && lastOf(said);
   }
 
   /** How many records there are. A resumed log does not know, and throws `BadArgument`. */

@@ -27,6 +27,12 @@ export const leaf = byLibrary("leaf", 2);
 /** The message that a key of the registry signs of a checkpoint with its time. */
 export const checkpointMessage = byLibrary("checkpointMessage", 1);
 
+/** How a checkpoint of a registry compares with an older one. */
+export const compareCheckpoints = byLibrary("compareCheckpoints", 3);
+
+/** How the leaves compare that are shown at one place of a registry's log under two checkpoints. */
+export const compareLeaves = byLibrary("compareLeaves", 3);
+
 /** Whether the signature belongs to the message under the key, by their texts. */
 export const verify = byLibrary("verify", 3);
 

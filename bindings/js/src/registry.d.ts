@@ -1,6 +1,6 @@
 /** The trees of a registry, for who keeps one. */
 import type { TimestampedCheckpoint } from "./checkpoints.js";
-import type { Library, OfLibrary } from "./index.js";
+import type { Bytes, Library, OfLibrary } from "./index.js";
 
 /** The roots of the log of all leaves and of the map. */
 export interface Roots {
@@ -25,12 +25,16 @@ export class RegistryTrees {
   constructor(library: Library);
   /** Trees of no leaves. */
   static open(options?: OfLibrary): Promise<RegistryTrees>;
+  /** Trees of the leaves that `toBytes` gave, or of the first of them. Throws `BadArgument` of another length. */
+  static fromBytes(saved: Bytes, options?: OfLibrary): Promise<RegistryTrees>;
   /** The library that the trees are made over. */
   readonly library: Library;
   /** Gives the memory of the trees back. Closing twice is harmless; any other call then throws `NotOpen`. */
   close(): void;
   /** Puts the leaf of a log's record last, makes the record the head of its log, and gives the leaf's place, from 0. */
   push(logId: string, recordId: string): number;
+  /** The leaves, 64 bytes for each: the 32 of its log's id and the 32 of its record's. */
+  toBytes(): Uint8Array;
   /** How many leaves were pushed. */
   readonly length: number;
   roots(): Roots;

@@ -2,7 +2,7 @@
  * The trees of a registry, for who keeps one. What decides is the library; see include/warg.h.
  * @module
  */
-import { textOf, utf8Of } from "./bytes.js";
+import { bytesOf, textOf, utf8Of } from "./bytes.js";
 import { Held } from "./held.js";
 import { number } from "./library.js";
 
@@ -31,6 +31,31 @@ export class RegistryTrees extends Held {
   /** Trees of no leaves, over a library that was loaded. `open` loads one. */
   constructor(library) {
     super(library, CALLS);
+  }
+
+  /**
+   * Trees of the leaves that `toBytes` gave, or of the first of them, made anew over a library or the one that is
+   * shared. This costs less than to push them, since the map is made of the last record of each log alone. Throws
+   * `BadArgument`, by the name `BadLength`, where the bytes are no multiple of 64.
+   */
+  static async fromBytes(saved, { library } = {}) {
+    const leaves = bytesOf(saved).slice();
+    const trees = await this.open({ library });
+    try {
+      trees.library.isDone("registry_resume", trees.library.status("registry_resume", [trees.#open(), leaves]));
+    } catch (error) {
+      trees.close();
+      throw error;
+    }
+    return trees;
+  }
+
+  /**
+   * The leaves, as `fromBytes` takes them: 64 bytes for each, in the order in which they were pushed, the 32 of its
+   * log's id and the 32 of its record's. So who keeps them may as well append 64 bytes for each leaf that is pushed.
+   */
+  toBytes() {
+    return this.library.filled("registry_save", [this.#open()], { room: 64 * this.length });
   }
 
   /**

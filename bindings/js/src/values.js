@@ -20,6 +20,22 @@ export const Relation = Object.freeze({
 /** The relations by the library's numbers. */
 export const RELATIONS = Object.values(Relation);
 
+/** How one checkpoint of a registry compares with an older one. */
+export const CheckpointComparison = Object.freeze({
+  SAME: "same",
+  GOES_ON: "goes-on",
+  GOES_BACK: "goes-back",
+  FORK: "fork",
+  NOT_SHOWN: "not-shown",
+});
+
+/** How the leaves compare that are shown at one place of a registry's log under two checkpoints. */
+export const LeafComparison = Object.freeze({ SAME: "same", FORK: "fork", NOT_SHOWN: "not-shown" });
+
+/** The comparisons by the library's numbers. */
+export const CHECKPOINT_COMPARISONS = Object.values(CheckpointComparison);
+export const LEAF_COMPARISONS = Object.values(LeafComparison);
+
 /** The kinds by the library's numbers. */
 export const KINDS = Object.values(Kind);
 

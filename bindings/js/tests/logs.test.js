@@ -36,6 +36,8 @@ async function packageLog(count = 4) {
 test("records, releases and keys", async () => {
   const log = await packageLog();
   assert.equal(log.length, 4);
+  assert.deepEqual(log.last(), { timestamp: START, version: 1, count: 4 });
+  assert.equal((await PackageLog.open()).last(), null);
   assert.equal(log.kind, Kind.PACKAGE);
   assert.equal(log.head(), await recordId("package", made[3]));
   assert.deepEqual(
@@ -172,6 +174,7 @@ test("two logs compare", async () => {
 test("a log goes on from its saved state", async () => {
   const log = await packageLog(3);
   const resumed = await PackageLog.fromJson(log.toJson());
+  assert.deepEqual(resumed.last(), { ...log.last(), count: null });
   assert.equal(resumed.toJson(), log.toJson());
   await resumed.append(made[3]);
   await log.append(made[3]);

@@ -179,6 +179,62 @@ test("a checkpoint of the moment is signed, published and verified", async () =>
   for (const it of [trees, operators]) it.close();
 });
 
+/** The bytes of leaves by their definition. */
+const savedOf = (leaves) =>
+  Buffer.concat(leaves.flatMap((it) => [it.logId, it.recordId]).map((it) => Buffer.from(it.slice(7), "hex")));
+
+test("trees of the bytes of leaves are those to which they were pushed, and go on", async () => {
+  for (const size of [0, 1, 2, 3, 7, 8, SIZES - 1]) {
+    const [pushed, leaves] = [treesOf(LEAVES.slice(0, size)), LEAVES.slice(0, size)];
+    const made = await RegistryTrees.fromBytes(savedOf(LEAVES).subarray(0, 64 * size), { library });
+    assert.equal(made.library, library);
+    for (const next of [LEAVES[size], { logId: LOGS[3], recordId: idOf("last") }]) {
+      assert.deepEqual(said(made), said(pushed));
+      assert.deepEqual(made.roots(), rootsOf(leaves));
+      checkMap(made, leaves, made.roots());
+      for (const it of [made, pushed]) {
+        const saved = it.toBytes();
+        assert.ok(saved instanceof Uint8Array && savedOf(leaves).equals(saved), String(size));
+        assert.equal(it.push(next.logId, next.recordId), leaves.length);
+      }
+      leaves.push(next);
+    }
+    for (const it of [made, pushed]) it.close();
+  }
+});
+
+test("leaves that come again, more of them than there is room at first, and bytes of any view", async () => {
+  const leaves = [...LEAVES, ...LEAVES.slice(0, 30), ...LEAVES.slice(20)];
+  const [pushed, saved] = [treesOf(leaves), savedOf(leaves)];
+  const views = [saved, new DataView(saved.buffer, saved.byteOffset, saved.length), new Uint8Array(saved).buffer];
+  for (const it of views) {
+    const waited = RegistryTrees.fromBytes(it, { library });
+    const made = await waited;
+    assert.deepEqual([said(made), made.consistency(77)], [said(pushed), pushed.consistency(77)]);
+    assert.ok(saved.equals(made.toBytes()));
+    made.close();
+  }
+  // What is passed is read at once, and what is given stays.
+  const changed = new Uint8Array(saved);
+  const waited = RegistryTrees.fromBytes(changed);
+  changed.fill(0);
+  const made = await waited;
+  const given = made.toBytes();
+  made.push(LOGS[0], LOGS[0]);
+  assert.ok(saved.equals(given));
+  for (const it of [made, pushed]) it.close();
+});
+
+test("bytes that are no multiple of 64 are no leaves", async () => {
+  for (const length of [1, 31, 32, 63, 65, 127, 64 * 70 + 32]) {
+    await assert.rejects(RegistryTrees.fromBytes(new Uint8Array(length), { library }), bad("BadLength"));
+  }
+  for (const it of ["", "00", 64, null, undefined, [0]]) {
+    await assert.rejects(RegistryTrees.fromBytes(it, { library }), TypeError);
+  }
+  await assert.rejects(RegistryTrees.fromBytes(new Uint8Array(64), { library: {} }), TypeError);
+});
+
 test("what is refused leaves the trees as they were", () => {
   for (const leaves of [[], LEAVES]) {
     const trees = treesOf(leaves);
@@ -217,6 +273,7 @@ test("trees that were closed say so", async () => {
     () => trees.consistency(0),
     () => trees.head(LOGS[0]),
     () => trees.head(7),
+    () => trees.toBytes(),
   ];
   const isSaid = (error) => error instanceof NotOpen && /trees of the registry were closed/.test(error.message);
   for (const call of calls) assert.throws(call, isSaid);
@@ -259,8 +316,8 @@ test("calls are of trees, and those of logs of logs", async () => {
   await assert.rejects(() => RegistryTrees.open({ library: {} }), TypeError);
   const [trees, log] = [treesOf(LEAVES), new PackageLog(library)];
   const before = said(trees);
-  const { push, inclusion, consistency, head, roots } = RegistryTrees.prototype;
-  for (const it of [push, inclusion, consistency, head, roots]) {
+  const { push, inclusion, consistency, head, roots, toBytes } = RegistryTrees.prototype;
+  for (const it of [push, inclusion, consistency, head, roots, toBytes]) {
     assert.throws(() => it.call(log, LOGS[0], LOGS[1]), TypeError);
   }
   assert.throws(() => Reflect.get(RegistryTrees.prototype, "length", log), TypeError);

@@ -146,6 +146,34 @@ test("trees that there is no room for leave nothing behind", async () => {
   new RegistryTrees(library).close();
 });
 
+test("trees of bytes that there is no room for leave nothing behind, nor do those of no leaves", async () => {
+  const library = await Library.load();
+  const trees = treesOf(library);
+  const saved = trees.toBytes();
+  trees.close();
+  const many = new Uint8Array(64 * 4000).map((_, place) => place * 7 + (place >> 6));
+  // What calls are passed is kept in part, until one gives something.
+  const settle = () => library.version();
+  settle();
+  const before = used(library);
+  for (let turn = 0; turn < 20; turn++) {
+    const made = await RegistryTrees.fromBytes(saved, { library });
+    assert.equal(made.length, LEAVES.length);
+    made.toBytes();
+    made.close();
+    await assert.rejects(RegistryTrees.fromBytes(saved.subarray(1), { library }), BadArgument);
+    settle();
+    assert.equal(used(library), before);
+  }
+  library.limit(library.memory().size);
+  for (let turn = 0; turn < 3; turn++) {
+    await assert.rejects(RegistryTrees.fromBytes(many, { library }), OutOfMemory);
+    settle();
+    assert.equal(used(library), before);
+  }
+  (await RegistryTrees.fromBytes(saved, { library })).close();
+});
+
 test("where growth is refused, each call says so or does without, and the trees are as they were", async () => {
   const library = await Library.load();
   const [trees, other] = [treesOf(library), treesOf(library, LEAVES.slice(0, 3))];

@@ -2,7 +2,9 @@
 import {
   BadArgument,
   BadLine,
+  CheckpointComparison,
   Kind,
+  LeafComparison,
   Library,
   Log,
   OperatorLog,
@@ -17,6 +19,8 @@ import {
   auditMany,
   checkpointMessage,
   checkpoints,
+  compareCheckpoints,
+  compareLeaves,
   kindOf,
   leaf,
   logId,
@@ -27,7 +31,7 @@ import {
   records,
   verify,
 } from "weoldrin";
-import type { Comparison, LogHead, Question, Release, Roots, Verify } from "weoldrin";
+import type { Comparison, LogHead, Question, Release, Roots, ShownLeaf, Verify } from "weoldrin";
 
 const always: Verify = (question: Question) => question.signature !== "";
 const later: Verify = async ({ key, message, signature }) => verify(key, message, signature);
@@ -95,6 +99,14 @@ export async function registry(operators: OperatorLog, library: Library): Promis
     : trees.library.verifyPresence("x", head.recordId, mapRoot, head.proof);
   const checkpoint: checkpoints.TimestampedCheckpoint = trees.checkpoint(1_700_000_000);
   operators.verifyCheckpoint(trees.checkpoint(2n ** 60n), "x", "y");
+  const saved: Uint8Array = trees.toBytes();
+  const made: RegistryTrees = await RegistryTrees.fromBytes(saved.buffer, { library });
+  const found: CheckpointComparison = library.compareCheckpoints(checkpoint, checkpoints.parse("{}"));
+  if (found === CheckpointComparison.FORK || found === "goes-back") made.close();
+  await compareCheckpoints(checkpoint, made.checkpoint(0), proofs[2] ?? "", { library });
+  const leaf: ShownLeaf = { checkpoint, logId: "x", recordId: "y", proof: "z" };
+  const leaves: LeafComparison = library.compareLeaves(place, leaf, { ...leaf, checkpoint: checkpoints.parse("{}") });
+  if ((await compareLeaves(2n ** 60n, leaf, leaf)) !== leaves) printable(LeafComparison.NOT_SHOWN);
   const length: number = trees.length;
   trees.close();
   return [logRoot, ...proofs, shown, checkpoint.logLength, length, new RegistryTrees(library).length].join(" ");
@@ -115,6 +127,16 @@ export function wrongTrees(trees: RegistryTrees): void {
   trees.length = 3;
   // @ts-expect-error: a checkpoint has its time
   trees.checkpoint();
+  // @ts-expect-error: leaves are bytes
+  void RegistryTrees.fromBytes("00");
+  // @ts-expect-error: trees that are made are waited for
+  RegistryTrees.fromBytes(trees.toBytes()).close();
+  // @ts-expect-error: a checkpoint has a length
+  trees.library.compareCheckpoints({ logRoot: "x", mapRoot: "y" }, trees.checkpoint(0));
+  // @ts-expect-error: a leaf has its checkpoint
+  trees.library.compareLeaves(0, { logId: "x", recordId: "y", proof: "z" }, { logId: "x", recordId: "y", proof: "z" });
+  // @ts-expect-error: no such comparison
+  trees.library.compareCheckpoints(trees.checkpoint(0), trees.checkpoint(0)) === "forked";
 }
 
 export async function wrong(log: PackageLog, envelope: Uint8Array): Promise<void> {

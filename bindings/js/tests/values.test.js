@@ -7,7 +7,9 @@ import { readdirSync } from "node:fs";
 import { test } from "node:test";
 import {
   BadArgument,
+  CheckpointComparison,
   Kind,
+  LeafComparison,
   Library,
   NoEnvelope,
   RegistryTrees,
@@ -108,14 +110,26 @@ class Answers {
   }
 
   "verify-inclusion"([log, record, place, length, root, proof], wanted) {
-    return this.#shows(
+    const seen = this.#shows(
       wanted,
       () => this.library.verifyInclusion(log, record, BigInt(place), BigInt(length), root, proof),
     );
+    const checkpoint = { logRoot: root, logLength: BigInt(length) };
+    const shown = { checkpoint, logId: log, recordId: record, proof };
+    const isShown = () => this.library.compareLeaves(BigInt(place), shown, shown) === LeafComparison.SAME;
+    assert.equal(this.#shows(wanted, isShown), seen);
+    return seen;
   }
 
   "verify-consistency"([old, oldRoot, fresh, root, proof], wanted) {
-    return this.#shows(wanted, () => this.library.verifyConsistency(BigInt(old), oldRoot, BigInt(fresh), root, proof));
+    const lengths = [old, fresh].map(BigInt);
+    const seen = this.#shows(wanted, () => this.library.verifyConsistency(lengths[0], oldRoot, lengths[1], root, proof));
+    if (lengths[0] < lengths[1]) {
+      const [older, newer] = [oldRoot, root].map((logRoot, it) => ({ logRoot, logLength: lengths[it], mapRoot: ANY }));
+      const goesOn = () => this.library.compareCheckpoints(older, newer, proof) === CheckpointComparison.GOES_ON;
+      assert.equal(this.#shows(wanted, goesOn), seen);
+    }
+    return seen;
   }
 
   "verify-presence"(words, wanted) {

@@ -168,7 +168,7 @@ const WRONG = {
     "logs",
     "compare",
   ],
-  "times before 1970 are far ahead": ["logs.js", "BigInt.asIntN(64, whole)", "whole", "logs", "yanked"],
+  "times before 1970 are far ahead": ["logs.js", "BigInt.asIntN(64, seconds)", "seconds", "logs", "yanked"],
   "blank lines are passed over": [
     "lines.js",
     "if (held) yield held;",

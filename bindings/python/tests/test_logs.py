@@ -11,6 +11,7 @@ from collections.abc import Callable
 from weoldrin import (
     BadArgument,
     Comparison,
+    Last,
     Link,
     LogKind,
     NoEnvelope,
@@ -47,6 +48,23 @@ class Packages(unittest.TestCase):
         self.addCleanup(self.log.close)
         for envelope in self.envelopes:
             self.log.append(envelope)
+
+    def test_last(self) -> None:
+        with PackageLog() as log:
+            self.assertIsNone(log.last())
+            log.append(self.envelopes[0])
+            self.assertEqual(log.last(), Last(published.START, 1, 1))
+        self.assertEqual(self.log.last(), Last(published.START, 1, 4))
+        with PackageLog.from_json(self.log.to_json()) as resumed:
+            self.assertEqual(resumed.last(), Last(published.START, 1, None))
+        with self.assertRaises(NotOpen):
+            resumed.last()
+
+    def test_times(self) -> None:
+        for timestamp in (-(2**63) * 10**9, -1, 0, 1, 1_000_000_001, 2**63 * 10**9 - 1):
+            with PackageLog() as log:
+                log.append(published.record(log, self.alice, [records.init(self.alice.public_key)], timestamp))
+                self.assertEqual(log.last(), Last(timestamp, 1, 1))
 
     def test_records(self) -> None:
         self.assertEqual(len(self.log), 4)

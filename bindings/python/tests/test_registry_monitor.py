@@ -147,7 +147,7 @@ class Honest(MonitorTest):
     def test_nothing_new(self) -> None:
         """No trees are made for a checkpoint whose roots were made."""
         self.assertEqual(self.monitor()[0], 0)
-        with mock.patch.object(monitors, "RegistryTrees", side_effect=AssertionError):
+        with mock.patch.object(RegistryTrees, "from_bytes", side_effect=AssertionError):
             self.registry.sign()
             self.assertEqual(self.monitor()[0], 0)
             self.registry.release(ONE, "2.0.0")
@@ -300,11 +300,11 @@ class Long(MonitorTest):
         self.made = 0
         replayer = Replayer(self.served.url, 60, 1)
 
-        def trees() -> RegistryTrees:
+        def trees(saved: bytes) -> RegistryTrees:
             self.made += 1
-            return RegistryTrees()
+            return RegistryTrees.from_bytes(saved)
 
-        patch = mock.patch.object(monitors, "RegistryTrees", trees)
+        patch = mock.patch.object(monitors, "RegistryTrees", mock.Mock(from_bytes=trees))
         patch.start()
         self.addCleanup(patch.stop)
         asked = Asked(self.served.url)
@@ -324,7 +324,7 @@ class Long(MonitorTest):
         self.assertEqual((self.seen.read(), self.seen.counted()), (count, count))
 
     def test_goes_on(self) -> None:
-        with mock.patch.object(monitors, "_PUSHED", 5):
+        with mock.patch.object(monitors, "_TAKEN", 5):
             self._step()
             for number in range(3):
                 self._check_read(12 + number)
@@ -365,12 +365,14 @@ class Long(MonitorTest):
         self.assertEqual(self.made, 1)
 
     def test_spoiled(self) -> None:
-        """A leaf in the file that is none."""
+        """A leaf in the file that is none: where the trees go on, and where they are made anew."""
         self._step()
         with self.seen.step():
             self.seen.add_leaves(12, [Leaf("sha256:0", "sha256:1")])
         self._grow("2.0.0")
-        self.assertRaises(Unusable, self.long.step)
+        for _ in range(2):
+            self.assertRaisesRegex(Unusable, "a leaf in it is spoiled", self.long.step)
+            self.long.close()
 
 
 class Gossip(MonitorTest):

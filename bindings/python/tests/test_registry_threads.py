@@ -18,7 +18,7 @@ from .test_interrupted import calls_wait
 from .test_threads import THREADS, in_threads
 from .trees import Leaf, hash_text, id_of, log_root
 
-NAMES = ("open", "close", "push", "length", "roots", "inclusion", "consistency", "head")
+NAMES = ("open", "close", "push", "length", "roots", "inclusion", "consistency", "head", "save", "resume")
 LEAVES = [Leaf(id_of(f"log {it % 3}"), id_of(f"record {it}")) for it in range(40)]
 ROOT = hash_text(log_root([it.of_log() for it in LEAVES]))
 
@@ -58,7 +58,7 @@ class Threads(unittest.TestCase):
     def test_all_calls_are_of_one_thread(self) -> None:
         """Whoever makes them, and of two registries of two threads."""
         with Called() as called:
-            kept = RegistryTrees()
+            kept = RegistryTrees.from_bytes(b"")
             waiting = iter(LEAVES)
 
             def work() -> None:
@@ -68,6 +68,7 @@ class Threads(unittest.TestCase):
                     kept.consistency(len(kept))
                     kept.inclusion(0)
                     kept.checkpoint(0)
+                    kept.to_bytes()
 
             self.assertEqual(in_threads(work), [])
             in_threads(kept.close)

@@ -3,6 +3,7 @@
 import copy
 import pickle
 import random
+import threading
 import unittest
 from collections.abc import Callable
 from unittest import mock
@@ -13,6 +14,7 @@ from weoldrin import (
     NotOpen,
     OutOfMemory,
     RegistryTrees,
+    saved_leaves,
     verify_absence,
     verify_consistency,
     verify_inclusion,
@@ -24,6 +26,8 @@ from . import trees
 from .trees import EMPTY, Leaf, SparseMap, hash_text, id_of, short_text, text_of
 
 LENGTH = 70
+# More leaves than the room for what calls write has at first.
+MANY = 200
 ABSENT = [id_of(f"none {it}") for it in range(5)]
 
 
@@ -138,6 +142,140 @@ class AsDefined(Checked):
                 kept.push(id_of("log"), id_of(str(length)))
 
 
+def saved_of(leaves: list[Leaf]) -> bytes:
+    """The bytes of leaves by their definition."""
+    return b"".join(bytes.fromhex(text.removeprefix("sha256:")) for it in leaves for text in it)
+
+
+class Saved(Checked):
+    """Trees that are made of the bytes of leaves."""
+
+    def setUp(self) -> None:
+        chosen = random.Random(9)
+        self.leaves = [Leaf(id_of(f"log {chosen.randrange(30)}"), id_of(f"record {it}")) for it in range(MANY)]
+
+    def check(self, kept: RegistryTrees, leaves: list[Leaf], pushed: RegistryTrees) -> None:
+        """Compares trees with those to which the same leaves were pushed."""
+        self.assertEqual(kept.checkpoint(5), pushed.checkpoint(5))
+        self.assertEqual(len(kept), len(leaves))
+        for log_id in {*(it.log_id for it in leaves), *ABSENT}:
+            self.assertEqual(kept.head(log_id), pushed.head(log_id))
+        for place in range(len(leaves)):
+            self.assertEqual(kept.inclusion(place), pushed.inclusion(place))
+        for first in range(len(leaves) + 1):
+            self.assertEqual(kept.consistency(first), pushed.consistency(first))
+        self.assertEqual((kept.to_bytes(), pushed.to_bytes()), (saved_of(leaves), saved_of(leaves)))
+
+    def test_each_length(self) -> None:
+        """And they go on as those do to which all leaves were pushed."""
+        saved = saved_of(self.leaves)
+        with RegistryTrees() as pushed:
+            for length in range(20):
+                with RegistryTrees.from_bytes(saved[: 64 * length]) as kept:
+                    self.check(kept, self.leaves[:length], pushed)
+                    self.assertEqual(kept.push(*self.leaves[length]), length)
+                    pushed.push(*self.leaves[length])
+                    self.check(kept, self.leaves[: length + 1], pushed)
+
+    def test_many(self) -> None:
+        with RegistryTrees() as pushed:
+            pushed.push_all(self.leaves)
+            with RegistryTrees.from_bytes(pushed.to_bytes()) as kept:
+                self.check(kept, self.leaves, pushed)
+                self.assertEqual(kept.push_all(self.leaves[:50]), MANY + 50)
+                pushed.push_all(self.leaves[:50])
+                self.check(kept, self.leaves + self.leaves[:50], pushed)
+
+    def test_as_defined(self) -> None:
+        leaves = self.leaves[:40]
+        with RegistryTrees.from_bytes(saved_of(leaves)) as kept:
+            self.assertEqual(kept.log_root(), hash_text(trees.log_root([it.of_log() for it in leaves])))
+            self.check_map(kept, leaves, 5)
+            for place in (0, 17, 39):
+                self.check_inclusion(kept, leaves, place)
+            for first in (0, 1, 31, 40):
+                root = hash_text(trees.log_root([it.of_log() for it in leaves[:first]]))
+                self.check_consistency(kept, leaves, first, root)
+
+    def test_leaves_that_come_again(self) -> None:
+        """A leaf may come twice, and a head come back."""
+        one, other = self.leaves[0], self.leaves[0]._replace(record_id=id_of("other"))
+        leaves = [one, one, other, self.leaves[1], other, one]
+        with RegistryTrees() as pushed, RegistryTrees.from_bytes(saved_of(leaves)) as kept:
+            pushed.push_all(leaves)
+            self.check(kept, leaves, pushed)
+            self.assertEqual(kept.head(one.log_id).record_id, one.record_id)
+
+    def test_keys_that_are_close(self) -> None:
+        keys = [int(self.leaves[0].log_id[7:], 16) ^ (1 << bit if bit >= 0 else 0) for bit in (-1, 0, 1, 8, 128, 255)]
+        leaves = [Leaf(f"sha256:{key:064x}", id_of(str(it))) for it, key in enumerate([*keys, *keys[2:4]])]
+        with RegistryTrees() as pushed, RegistryTrees.from_bytes(saved_of(leaves)) as kept:
+            pushed.push_all(leaves)
+            self.check(kept, leaves, pushed)
+
+    def test_saved_leaves(self) -> None:
+        """They are the bytes of trees, whatever the case of digits."""
+        self.assertEqual(saved_leaves(iter(self.leaves)), saved_of(self.leaves))
+        self.assertEqual(saved_leaves([]), b"")
+        own = id_of("log")
+        capitals = own[:7] + own[7:].upper()
+        self.assertEqual(saved_leaves([(capitals, own)]), saved_of([Leaf(own, own)]))
+        wrong = ["", "log", own[:-1], f"{own}0", own.upper(), f" {own}", f"{own}\n", f"{own[:-2]} 0", f"{own[:-1]}g"]
+        for it in [*wrong, f"{own[:-1]}\u0661", "sha256:\udc80", "sha512:00"]:
+            for leaf in ((it, own), (own, it)):
+                with self.assertRaises(BadArgument) as caught:
+                    saved_leaves([self.leaves[0], leaf])
+                self.assertEqual(str(caught.exception), "BadText: an id is not the text of one")
+                with RegistryTrees() as kept:
+                    self.assertRaises(BadArgument, kept.push, *leaf)
+        for other in (None, 7, own.encode()):
+            self.assertRaises(TypeError, saved_leaves, [(own, other)])
+        self.assertRaises(ValueError, saved_leaves, [(own, own, own)])
+
+    def test_what_bytes_are(self) -> None:
+        """Any view of bytes, and what is given stays as it was."""
+        saved = saved_of(self.leaves[:3])
+        for it in (bytearray(saved), memoryview(saved), memoryview(bytearray(b"x" + saved))[1:]):
+            with RegistryTrees.from_bytes(it) as kept:
+                given = kept.to_bytes()
+                kept.push(*self.leaves[3])
+                self.assertEqual((given, kept.to_bytes()), (saved, saved_of(self.leaves[:4])))
+                self.assertIs(type(given), bytes)
+
+    def test_lengths(self) -> None:
+        """Those that are no multiple of 64, of which nothing stays."""
+        others = threading.enumerate()
+        saved = saved_of(self.leaves)
+        for length in (1, 32, 63, 65, 96, 127, len(saved) - 1):
+            with self.assertRaises(BadArgument) as caught:
+                RegistryTrees.from_bytes(saved[:length])
+            self.assertEqual(str(caught.exception), "BadLength: the bytes are no multiple of 64")
+        for it in ("", 64, None, [0] * 64):
+            self.assertRaises(TypeError, RegistryTrees.from_bytes, it)
+        for thread in set(threading.enumerate()) - set(others):
+            thread.join(20)
+        self.assertEqual(set(threading.enumerate()) - set(others), set())
+
+    def test_memory(self) -> None:
+        """A call to which memory is refused may be made again."""
+        saved = saved_of(self.leaves)
+        with RegistryTrees.from_bytes(saved) as kept:
+            with mock.patch.dict(CALLS, {it: lambda *_: 2 for it in ("registry_save", "registry_resume")}):
+                self.assertRaises(OutOfMemory, kept.to_bytes)
+                self.assertRaises(OutOfMemory, RegistryTrees.from_bytes, saved)
+            self.assertEqual(kept.to_bytes(), saved)
+
+    def test_classes(self) -> None:
+        """What a class of its own makes is of that class."""
+
+        class Own(RegistryTrees):
+            """Trees of a class of their own."""
+
+        with Own.from_bytes(saved_of(self.leaves)) as kept:
+            self.assertIs(type(kept), Own)
+            self.assertEqual(len(kept), MANY)
+
+
 class Refused(Checked):
     """What is refused leaves the trees as they were."""
 
@@ -224,7 +362,7 @@ class Refused(Checked):
         calls: list[Callable[[], object]]
         calls = [self.kept.__len__, self.kept.log_root, self.kept.map_root, lambda: self.kept.checkpoint(0)]
         calls += [lambda: self.kept.push(own, own), lambda: self.kept.push_all([(own, own)])]
-        calls += [lambda: self.kept.push_all([]), lambda: self.kept.head(own)]
+        calls += [lambda: self.kept.push_all([]), lambda: self.kept.head(own), self.kept.to_bytes]
         calls += [lambda: self.kept.inclusion(0), lambda: self.kept.inclusion(-1), lambda: self.kept.consistency(9)]
         for call in calls:
             with self.assertRaises(NotOpen) as caught:

@@ -1,14 +1,29 @@
 """The rows of conformance/values/transparency*.rows, answer for answer.
 
-No call of the library gives what a registry does, roots and proofs: these rows are played by the definitions in
-trees.py.
+What a registry gives, roots and proofs, is played by the definitions in trees.py, and by the library's trees: those to
+which leaves are pushed, and those that are made of saved ones. What a proof shows is asked of comparisons too.
 """
 
 import pathlib
 import unittest
 from collections.abc import Callable
 
-from weoldrin import BadArgument, records, verify_absence, verify_consistency, verify_inclusion, verify_presence
+from weoldrin import (
+    BadArgument,
+    Checkpoint,
+    CheckpointComparison,
+    LeafComparison,
+    RegistryTrees,
+    ShownLeaf,
+    compare_checkpoints,
+    compare_leaves,
+    records,
+    saved_leaves,
+    verify_absence,
+    verify_consistency,
+    verify_inclusion,
+    verify_presence,
+)
 
 from . import trees
 from .rows import blocks, quoted, row_of
@@ -33,6 +48,29 @@ PARSE: dict[str, Callable[[str], bool]] = {
 }
 
 
+def goes_on(old: str, old_root: str, new: str, new_root: str, proof: str) -> bool:
+    """Whether a checkpoint goes on from one of fewer leaves, which has the same map."""
+    before, after = Checkpoint(old_root, int(old), ANY, 0), Checkpoint(new_root, int(new), ANY, 0)
+    found = compare_checkpoints(before, after, proof)
+    assert found in (CheckpointComparison.GOES_ON, CheckpointComparison.NOT_SHOWN), found
+    return found is CheckpointComparison.GOES_ON
+
+
+def is_shown(log_id: str, record_id: str, place: str, length: str, root: str, proof: str) -> bool:
+    """Whether a leaf is shown twice."""
+    shown = ShownLeaf(Checkpoint(root, int(length), ANY, 0), log_id, record_id, proof)
+    found = compare_leaves(int(place), shown, shown)
+    assert found is not LeafComparison.FORK
+    return found is LeafComparison.SAME
+
+
+def other_verifier(topic: str, words: list[str]) -> Callable[..., bool] | None:
+    """The comparison that says the same as a verifier of proofs, where there is one."""
+    if topic == "verify-consistency" and int(words[0]) < int(words[2]):
+        return goes_on
+    return is_shown if topic == "verify-inclusion" else None
+
+
 def fault(error: BadArgument, wanted: str) -> str:
     """The fault of a proof's text. Of a text that is no hash none is named: then the wanted one is taken for it."""
     if error.name:
@@ -40,10 +78,10 @@ def fault(error: BadArgument, wanted: str) -> str:
     return wanted if wanted not in ("= ok", "! Refused") else "a fault"
 
 
-def verified(topic: str, words: list[str], wanted: str) -> str:
+def verified(verify: Callable[..., bool], words: list[str], wanted: str) -> str:
     """What the library answers."""
     try:
-        return "= ok" if VERIFY[topic](*words) else "! Refused"
+        return "= ok" if verify(*words) else "! Refused"
     except BadArgument as error:
         return fault(error, wanted)
 
@@ -77,10 +115,32 @@ def given(topic: str, words: list[str]) -> str:
     raise ValueError(f"a strange topic: {topic}")
 
 
+def given_by(kept: RegistryTrees, topic: str, words: list[str]) -> str:
+    """The same by trees of these leaves."""
+    if topic in ("map-root", "log-root"):
+        return kept.map_root() if topic == "map-root" else kept.log_root()
+    if topic == "map-proof":
+        return kept.head(words[0]).proof
+    try:
+        return kept.inclusion(int(words[0])) if topic == "inclusion-proof" else kept.consistency(int(words[0]))
+    except IndexError:
+        return "none"
+
+
+def by_library(topic: str, words: list[str]) -> list[str]:
+    """The same by both trees of the library, where a row asks for what they give."""
+    if topic in VERIFY or topic == "parse":
+        return []
+    leaves = leaves_of(words if topic.endswith("-root") else words[1:])
+    with RegistryTrees() as pushed, RegistryTrees.from_bytes(saved_leaves(leaves)) as made:
+        pushed.push_all(leaves)
+        return [f"= {quoted(given_by(it, topic, words))}" for it in (pushed, made)]
+
+
 def answer(topic: str, words: list[str], wanted: str) -> str:
     """The answer to a row, where that is the one that is wanted if the library does not tell more."""
     if topic in VERIFY:
-        return verified(topic, words, wanted)
+        return verified(VERIFY[topic], words, wanted)
     if topic == "parse":
         return parsed(words[0], words[1], wanted)
     return f"= {quoted(given(topic, words))}"
@@ -97,6 +157,11 @@ class Transparency(unittest.TestCase):
             topic, *words = words_of(row.question)
             with self.subTest(file=path.name, line=block.head.number):
                 self.assertEqual(answer(topic, words, row.wanted), row.wanted)
+                for it in by_library(topic, words):
+                    self.assertEqual(it, row.wanted)
+                other = other_verifier(topic, words)
+                if other is not None:
+                    self.assertEqual(verified(other, words, row.wanted), row.wanted)
             played += 1
         print(f"\n{played} rows of proofs played")
         self.assertGreater(played, 400)

@@ -20,7 +20,8 @@ FOLDER = pathlib.Path(__file__).resolve().parent.parent
 # The longest that a test takes.
 PATIENCE = 120
 
-DEFINED, REFUSED = "test_registry_trees.AsDefined", "test_registry_trees.Refused"
+DEFINED, REFUSED, SAVED = (f"test_registry_trees.{it}" for it in ("AsDefined", "Refused", "Saved"))
+COMPARED = "test_comparisons"
 THREADS, FORGOTTEN = "test_registry_threads.Threads", "test_registry_threads.Forgotten"
 SIGNALS, FORKS, ENDS = (f"test_registry_interrupted.{it}" for it in ("Signals", "Forks", "Ends"))
 CLIENT, MONITOR = "test_registry_client", "test_registry_monitor"
@@ -71,7 +72,7 @@ WRONG: dict[str, Wrong] = {
         "trees.py", "        return True\n", "        return len(self) > 0\n", f"{REFUSED}.test_copies"),
     "trees are copied": ("trees.py", "def __reduce__", "def _reduce", f"{REFUSED}.test_copies"),
     "a bad id is told of the log": (
-        "_library.py", '    "registry_push": _NO_ID,\n', "", f"{REFUSED}.test_ids"),
+        "_library.py", '    "registry_push": NO_ID,\n', "", f"{REFUSED}.test_ids"),
     # The thread
     "a call is made by whoever asks": (
         "_own_thread.py", "        self._ask(call)\n        return call.outcome()",
@@ -139,7 +140,74 @@ WRONG: dict[str, Wrong] = {
         "_own_thread.py", "if sys.is_finalizing():", "if False:", f"{ENDS}.test_after_the_last"),
     "what is closed too late waits for ever": (
         "_own_thread.py", " and not sys.is_finalizing():", ":", f"{ENDS}.test_after_the_last"),
+    # Leaves that are saved, and comparisons
+    "the ids of a saved leaf are swapped": (
+        "trees.py", "for text in (log_id, record_id):", "for text in (record_id, log_id):",
+        f"{SAVED}.test_saved_leaves"),
+    "what is behind an id is passed over": (
+        "trees.py", "_ID.fullmatch(text)", "_ID.match(text)", f"{SAVED}.test_saved_leaves"),
+    "trees are made of no leaves": (
+        "trees.py", "(self._registry, saved, len(saved))", "(self._registry, saved, 0)", f"{SAVED}.test_each_length"),
+    "refused leaves are none": (
+        "trees.py", 'checked("registry_resume", CALLS["registry_resume"](self._registry, saved, len(saved)))',
+        'CALLS["registry_resume"](self._registry, saved, len(saved))', f"{SAVED}.test_lengths"),
+    "no sentence tells of refused leaves": (
+        "_library.py", '    "registry_resume": "BadLength: the bytes are no multiple of 64",\n', "",
+        f"{SAVED}.test_lengths"),
+    "trees are made anew by any thread": (
+        "trees.py", "trees._own.made(functools.partial(trees._handle.resume, leaves))", "trees._handle.resume(leaves)",
+        f"{THREADS}.test_all_calls_are_of_one_thread"),
+    "leaves are saved by any thread": (
+        "trees.py", "self._own.made(self._handle.save)", "self._handle.save()",
+        f"{THREADS}.test_all_calls_are_of_one_thread"),
+    "the older checkpoint is the newer one": (
+        "proofs.py", "[*words[0], *words[1], *shown]", "[*words[1], *words[0], *shown]",
+        f"{COMPARED}.Checkpoints.test_each_two_lengths"),
+    "the roots of checkpoints are swapped": (
+        "proofs.py", "_passed(it.log_length, it.log_root, it.map_root)",
+        "_passed(it.log_length, it.map_root, it.log_root)", f"{COMPARED}.Checkpoints.test_each_two_lengths"),
+    "a proof of consistency is left out": (
+        "proofs.py", "    shown = _passed(proof)\n", '    shown = _passed("")\n',
+        f"{COMPARED}.Checkpoints.test_each_two_lengths"),
+    "the newer leaf is compared with itself": (
+        "proofs.py", "proof in (old, new)\n", "proof in (new, new)\n",
+        f"{COMPARED}.Leaves.test_forked"),
+    "the fault of the newer proof alone is told": (
+        "proofs.py", "passed, words[0][-2:], words[1][-2:]", "passed, words[1][-2:]", f"{COMPARED}.Leaves.test_faults"),
+    "a comparison without memory has an answer": (
+        "proofs.py", "    checked(name, status)\n    return case.value", "    return case.value",
+        f"{COMPARED}.Leaves.test_memory"),
+    "a text that is no proof ends a client": (
+        "registry/following.py", "        return compare_checkpoints(old, new, proof)\n    except BadArgument:",
+        "        return compare_checkpoints(old, new, proof)\n    except ZeroDivisionError:", f"{COMPARED}.Told"),
+    "a text that is no proof hides a rollback": (
+        "registry/following.py", "compared(old, new) if proof else CheckpointComparison.NOT_SHOWN",
+        "CheckpointComparison.NOT_SHOWN", f"{COMPARED}.Told"),
+    "a text that is no proof shows a log": (
+        "registry/following.py", "CheckpointComparison.NOT_SHOWN if found is CheckpointComparison.GOES_ON else found",
+        "found", f"{COMPARED}.Told"),
     # The client
+    "a rollback is a fork": (
+        "registry/following.py", "if found is CheckpointComparison.GOES_BACK:", "if False:",
+        f"{CLIENT}.Lies.test_after_honest"),
+    "a fork goes on": (
+        "registry/following.py", "if found not in GOING_ON:",
+        "if found not in (*GOING_ON, CheckpointComparison.FORK):", f"{CLIENT}.Lies.test_after_honest"),
+    "what is not shown goes on": (
+        "registry/following.py", "if found not in GOING_ON:",
+        "if found not in (*GOING_ON, CheckpointComparison.NOT_SHOWN):", f"{CLIENT}.Lies.test_after_honest"),
+    "the proof that a log goes on is not taken": (
+        "registry/following.py", 'compared(old, new, head.consistency or "")', "compared(old, new)",
+        f"{CLIENT}.Fetch.test_honest"),
+    "two answers of one length are the same": (
+        "registry/following.py", "if compared(newest.contents, other.contents) is not CheckpointComparison.SAME:",
+        "if False:", f"{CLIENT}.Lies.test_after_honest"),
+    "gossip takes a fork for one view": (
+        "registry/gossip.py", "if compared(one.contents, other.contents) is not CheckpointComparison.SAME:",
+        "if False:", f"{MONITOR}.Gossip.test_fork"),
+    "gossip takes what is not shown": (
+        "registry/gossip.py", "if compared(old.contents, new.contents, proof) not in GOING_ON:", "if False:",
+        f"{MONITOR}.Gossip.test_fork"),
     "a leaf may be denied": (
         "registry/packages.py", "if place is None or not before", "if place is not None and not before",
         f"{CLIENT}.Lies.test_at_first"),
@@ -174,11 +242,16 @@ WRONG: dict[str, Wrong] = {
         "registry/monitor.py", "map_root() != newest.contents.map_root", "map_root() is None",
         f"{MONITOR}.Lies.test_lies"),
     "what is left out of the trees is a page": (
-        "registry/monitor.py", "while (start := len(trees)) < length:", "if (start := len(trees)) < length:",
+        "registry/monitor.py", "range(0, length, _TAKEN))\n", "range(0, length, 2 * _TAKEN))\n",
+        f"{MONITOR}.Long.test_goes_on"),
+    "the trees do not go on": (
+        "registry/monitor.py", "while (start := len(self._trees)) < length:", "while (start := length) < length:",
         f"{MONITOR}.Long.test_goes_on"),
     "the trees are made anew in each step": (
-        "registry/monitor.py", "self._trees = self._trees or RegistryTrees()", "self._trees = RegistryTrees()",
+        "registry/monitor.py", "            if self._trees is None:\n", "            if True:\n",
         f"{MONITOR}.Long.test_goes_on"),
+    "a spoiled leaf is a bad argument": (
+        "registry/monitor.py", "except BadArgument:", "except ZeroDivisionError:", f"{MONITOR}.Long.test_spoiled"),
     "the trees are made for nothing": (
         "registry/monitor.py", "        if self._is_checked(newest):\n            return\n        while",
         "        while", f"{MONITOR}.Honest.test_nothing_new"),

@@ -52,11 +52,12 @@ mod question;
 mod raw;
 pub mod records;
 mod registry_trees;
+mod time;
 
 pub use checkpoint::Checkpoint;
 pub use error::{Error, Reason};
 pub use kind::{LogKind, Operator, OperatorPermission, Package, PackagePermission, Permission, UnknownPermission};
-pub use log::{Comparison, Link, Log, Record};
+pub use log::{Comparison, Last, Link, Log, Record};
 pub use operator::{NamespaceState, OperatorLog};
 pub use package::{PackageLog, Release, ReleaseState, Releases};
 pub use printable::{printable, Printable};

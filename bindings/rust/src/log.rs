@@ -4,10 +4,12 @@ use crate::error::Error;
 use crate::kind::{LogKind, Permission};
 use crate::question::SignatureCheck;
 use crate::raw;
+use crate::time::system_time;
 use std::cell::UnsafeCell;
 use std::fmt;
 use std::marker::PhantomData;
 use std::ptr;
+use std::time::SystemTime;
 
 /// A log whose records are checked by the library: a [`PackageLog`](crate::PackageLog) or an [`OperatorLog`](crate::OperatorLog).
 ///
@@ -25,6 +27,17 @@ pub struct Log<K: LogKind> {
 
 // SAFETY: what the handle owns is proved to cross threads. It is not `Sync`, so that one call at a time is made.
 unsafe impl<K: LogKind> Send for Log<K> {}
+
+/// What is known of a log's last record beside its id.
+#[derive(Clone, Copy, Debug, PartialEq, Eq)]
+pub struct Last {
+    /// Its time.
+    pub timestamp: SystemTime,
+    /// Its version of the protocol.
+    pub version: u32,
+    /// How many records the log has; none where it was resumed.
+    pub count: Option<usize>,
+}
 
 /// A record that a log keeps.
 #[derive(Clone, Debug, PartialEq, Eq)]
@@ -137,6 +150,17 @@ impl<K: LogKind> Log<K> {
     pub fn head(&self) -> Result<Option<String>, Error> {
         // SAFETY: no other call has the log, and each pointer goes with the length of its slice (`raw`).
         self.text(|log, text, used| unsafe { raw::warg_head(log, text.as_mut_ptr(), text.len(), used) })
+    }
+
+    /// The time and the version of the last record, and how many records there are; none before any.
+    pub fn last(&self) -> Result<Option<Last>, Error> {
+        let mut head = raw::Head::default();
+        // SAFETY: no other call has the log (`raw`).
+        if !self.done(|log| unsafe { raw::warg_head_of(log, &mut head) })? {
+            return Ok(None);
+        }
+        let timestamp = system_time(head.seconds, head.nanos);
+        Ok(Some(Last { timestamp, version: head.version, count: (head.is_counted != 0).then_some(head.count) }))
     }
 
     /// How many records there are. The error is [`Error::BadArgument`] for a resumed log.

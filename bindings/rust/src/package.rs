@@ -4,7 +4,8 @@ use crate::error::Error;
 use crate::kind::Package;
 use crate::log::Log;
 use crate::raw;
-use std::time::{Duration, SystemTime};
+use crate::time::system_time;
+use std::time::SystemTime;
 
 /// The log of a package.
 pub type PackageLog = Log<Package>;
@@ -64,22 +65,14 @@ impl Release {
             record_id: text_of(record_id),
             version: text_of(version),
             by: text_of(by),
-            timestamp: time(lengths.seconds, lengths.nanos),
+            timestamp: system_time(lengths.seconds, lengths.nanos),
             state: if lengths.is_yanked == 0 {
                 ReleaseState::Released { content: state }
             } else {
-                ReleaseState::Yanked { by: state, timestamp: time(lengths.yanked_seconds, lengths.yanked_nanos) }
+                ReleaseState::Yanked { by: state, timestamp: system_time(lengths.yanked_seconds, lengths.yanked_nanos) }
             },
         }
     }
-}
-
-// A time before 1970 is reached in two steps: the earliest is 2^63 seconds away, which Rust 1.63 takes for too many.
-fn time(seconds: i64, nanos: u32) -> SystemTime {
-    let half = seconds.unsigned_abs() / 2;
-    let (half, rest) = (Duration::from_secs(half), Duration::from_secs(seconds.unsigned_abs() - half));
-    let start = if seconds < 0 { SystemTime::UNIX_EPOCH - half - rest } else { SystemTime::UNIX_EPOCH + half + rest };
-    start + Duration::new(0, nanos)
 }
 
 impl PackageLog {

@@ -45,6 +45,17 @@ pub(crate) struct Kept {
     pub id_len: usize,
 }
 
+/// A `struct warg_head`.
+#[repr(C)]
+#[derive(Default)]
+pub(crate) struct Head {
+    pub seconds: i64,
+    pub count: usize,
+    pub nanos: u32,
+    pub version: u32,
+    pub is_counted: u32,
+}
+
 /// A `struct warg_release`.
 #[repr(C)]
 #[derive(Default)]
@@ -141,6 +152,7 @@ extern "C" {
         signature_len: usize,
     ) -> u32;
     pub(crate) fn warg_head(log: *mut Log, text: *mut u8, text_len: usize, used: *mut usize) -> u32;
+    pub(crate) fn warg_head_of(log: *mut Log, head: *mut Head) -> u32;
     pub(crate) fn warg_length(log: *mut Log, length: *mut usize) -> u32;
     pub(crate) fn warg_record(
         log: *mut Log,
@@ -302,6 +314,43 @@ extern "C" {
         text_len: usize,
         used: *mut usize,
     ) -> u32;
+    pub(crate) fn warg_compare_checkpoints(
+        old_length: u64,
+        old_log_root: *const u8,
+        old_log_root_len: usize,
+        old_map_root: *const u8,
+        old_map_root_len: usize,
+        new_length: u64,
+        new_log_root: *const u8,
+        new_log_root_len: usize,
+        new_map_root: *const u8,
+        new_map_root_len: usize,
+        proof: *const u8,
+        proof_len: usize,
+        comparison: *mut u32,
+    ) -> u32;
+    pub(crate) fn warg_compare_leaves(
+        place: u64,
+        old_length: u64,
+        old_root: *const u8,
+        old_root_len: usize,
+        old_log_id: *const u8,
+        old_log_id_len: usize,
+        old_record_id: *const u8,
+        old_record_id_len: usize,
+        old_proof: *const u8,
+        old_proof_len: usize,
+        new_length: u64,
+        new_root: *const u8,
+        new_root_len: usize,
+        new_log_id: *const u8,
+        new_log_id_len: usize,
+        new_record_id: *const u8,
+        new_record_id_len: usize,
+        new_proof: *const u8,
+        new_proof_len: usize,
+        comparison: *mut u32,
+    ) -> u32;
     pub(crate) fn warg_registry_open(registry: *mut Registry) -> u32;
     pub(crate) fn warg_registry_close(registry: *mut Registry);
     pub(crate) fn warg_registry_push(
@@ -343,6 +392,8 @@ extern "C" {
         used: *mut usize,
         head: *mut LogHead,
     ) -> u32;
+    pub(crate) fn warg_registry_save(registry: *mut Registry, bytes: *mut u8, bytes_len: usize, used: *mut usize) -> u32;
+    pub(crate) fn warg_registry_resume(registry: *mut Registry, saved: *const u8, saved_len: usize) -> u32;
     pub(crate) fn warg_checkpoint_message(
         log_length: u64,
         log_root: *const u8,

@@ -59,15 +59,31 @@ pub struct Head {
 }
 
 const BAD_ID: &[u8] = b"BadText: an id is not the text of one";
+const BAD_LENGTH: &[u8] = b"BadLength: the bytes are no multiple of 64";
 
 impl RegistryTrees {
     /// The trees of no leaves. The error is [`Error::OutOfMemory`].
     pub fn new() -> Result<Self, Error> {
+        // SAFETY: no other call has the trees (`raw`).
+        Self::begun(&[], |raw| unsafe { raw::warg_registry_open(raw) })
+    }
+
+    /// The trees of the leaves that [`to_bytes`](Self::to_bytes) gave, or of the first of them, made anew. This costs
+    /// less than to push them, since the map is made of the last record of each log alone. The error is
+    /// [`Error::BadArgument`] where the bytes are no multiple of 64.
+    pub fn from_bytes(saved: &[u8]) -> Result<Self, Error> {
+        // SAFETY: no other call has the trees, and the pointer goes with the length of its slice (`raw`).
+        Self::begun(BAD_LENGTH, |raw| unsafe { raw::warg_registry_resume(raw, saved.as_ptr(), saved.len()) })
+    }
+
+    // Trees that a call begins, with the text of a bad argument.
+    fn begun(misuse: &[u8], call: impl FnOnce(*mut raw::Registry) -> u32) -> Result<Self, Error> {
         let none = raw::Registry { at: ptr::null_mut(), is_open: false };
         let trees = RegistryTrees { raw: UnsafeCell::new(none) };
-        // SAFETY: no other call has the trees (`raw`).
-        trees.done(|raw| unsafe { raw::warg_registry_open(raw) })?;
-        Ok(trees)
+        match call(trees.raw.get()) {
+            raw::OK => Ok(trees),
+            status => Err(Error::of(status, misuse)),
+        }
     }
 
     /// Puts the leaf of a record of a log last onto the log of all leaves, and makes the record the head of its log.
@@ -80,6 +96,17 @@ impl RegistryTrees {
             raw::warg_registry_push(raw, log_at, log_id.len(), record_at, record_id.len(), &mut place)
         })?;
         Ok(place)
+    }
+
+    /// The leaves, as [`from_bytes`](Self::from_bytes) takes them: 64 bytes for each, in the order in which they were
+    /// pushed, the 32 of its log's id and the 32 of its record's. So who keeps them may as well append 64 bytes for
+    /// each leaf that is pushed.
+    pub fn to_bytes(&self) -> Result<Vec<u8>, Error> {
+        let room = usize::try_from(self.len()?).unwrap_or(0).saturating_mul(64);
+        // SAFETY: no other call has the trees, and each pointer goes with the length of its slice (`raw`).
+        let saved =
+            filled(room, |to, used| unsafe { raw::warg_registry_save(self.raw.get(), to.as_mut_ptr(), to.len(), used) })?;
+        saved.ok_or(Error::BadArgument(None))
     }
 
     /// How many leaves there are.

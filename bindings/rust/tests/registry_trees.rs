@@ -137,6 +137,52 @@ fn cases_of_ids() -> Tested {
     Ok(())
 }
 
+/// The bytes of an id.
+fn bytes_of(id: &str) -> Vec<u8> {
+    let digits = id.strip_prefix("sha256:").expect("an id");
+    (0..32).map(|it| u8::from_str_radix(&digits[2 * it..][..2], 16).expect("two digits")).collect()
+}
+
+/// Trees that are made of the bytes of leaves are those to which the leaves were pushed, and go on as they do.
+#[test]
+fn saved_leaves() -> Tested {
+    let leaves: Vec<[String; 2]> = (0..60).map(|it| [id(it % 3), id(it)]).collect();
+    let saved: Vec<u8> = leaves.iter().flatten().flat_map(|it| bytes_of(it)).collect();
+    for size in 0..40 {
+        let (mut pushed, mut made) = (trees_of(size)?, RegistryTrees::from_bytes(&saved[..64 * size as usize])?);
+        for next in size..size + 3 {
+            assert_eq!(all_of(&made)?, all_of(&pushed)?);
+            assert_eq!(made.to_bytes()?, saved[..64 * next as usize]);
+            assert_eq!(pushed.to_bytes()?, made.to_bytes()?);
+            assert_eq!(made.push(&id(next % 3), &id(next))?, next);
+            pushed.push(&id(next % 3), &id(next))?;
+        }
+    }
+    Ok(())
+}
+
+/// A leaf may come twice, and a head come back.
+#[test]
+fn saved_leaves_that_come_again() -> Tested {
+    let mut trees = RegistryTrees::new()?;
+    for (log, record) in [(1, 7), (1, 7), (1, 8), (2, 8), (1, 8), (1, 7)] {
+        trees.push(&id(log), &id(record))?;
+    }
+    let made = RegistryTrees::from_bytes(&trees.to_bytes()?)?;
+    assert_eq!(all_of(&made)?, all_of(&trees)?);
+    assert_eq!(made.head(&id(1))?.record_id, Some(id(7)));
+    Ok(())
+}
+
+/// Bytes that are no multiple of 64 are no leaves.
+#[test]
+fn bytes_of_no_leaves() {
+    for length in [1, 31, 32, 63, 65, 127, 640 + 32] {
+        let made = RegistryTrees::from_bytes(&vec![7; length]);
+        assert_eq!(fault_of(made), "BadLength", "{length}");
+    }
+}
+
 /// Trees of several threads are used at once, each by the thread that made them.
 #[test]
 fn threads() -> Tested {

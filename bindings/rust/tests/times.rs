@@ -5,7 +5,7 @@ mod publishing;
 use std::time::{Duration, SystemTime};
 use weoldrin::p256::{key_id, sha256_text};
 use weoldrin::records::{Entry, NewRecord};
-use weoldrin::{Error, PackageLog};
+use weoldrin::{Error, Last, PackageLog};
 
 const BILLION: u32 = 1_000_000_000;
 
@@ -28,6 +28,8 @@ fn times_are_written_and_read() -> Result<(), Error> {
             log.append_signed(&publishing::signed(&record, &alice, &alice))?;
             let latest = log.latest("*")?.expect("a release");
             assert_eq!(latest.timestamp, at(seconds, nanos), "{seconds} {nanos}");
+            let last = Last { timestamp: at(seconds, nanos), version: 1, count: Some(1) };
+            assert_eq!(log.last()?, Some(last));
             let yank = vec![Entry::yank("1.0.0")];
             let record = NewRecord { prev: log.head()?, version: 1, timestamp: at(i64::MAX, BILLION - 1), entries: yank };
             log.append_signed(&publishing::signed(&record, &alice, &alice))?;

@@ -9,7 +9,7 @@ from __future__ import annotations
 
 import threading
 import time
-from collections.abc import Iterator
+from collections.abc import Callable, Iterator
 from contextlib import contextmanager
 from typing import NamedTuple
 
@@ -22,6 +22,7 @@ from weoldrin import (
     RegistryTrees,
     SignedCheckpoint,
     log_id,
+    saved_leaves,
     verify_absence,
     verify_consistency,
     verify_inclusion,
@@ -194,20 +195,28 @@ class Checkpoints:
         self._newest, self._is_verified = newest, is_verified
 
     def _trees_of(self, length: int) -> RegistryTrees:
-        """The trees over the first leaves, of so many. They are made anew where they have more."""
+        """The trees over the first leaves, of so many. They go on, but are made anew where they have more."""
         if self._trees is not None and len(self._trees) > length:
             self._drop_trees()
-        trees = self._trees = self._trees or RegistryTrees()
-        start = len(trees)
+        if self._trees is None:
+            saved = bytearray()
+            self._read_leaves(0, length, lambda leaves: saved.extend(saved_leaves(leaves)))
+            self._trees = RegistryTrees.from_bytes(saved)
+        else:
+            self._read_leaves(len(self._trees), length, self._trees.push_all)
+        return self._trees
+
+    def _read_leaves(self, start: int, length: int, take: Callable[[list[tuple[str, str]]], object]) -> None:
+        """Has the leaves taken from a place on up to a length, some at once."""
         while start < length:
             leaves = self._storage.leaves(start, min(_MANY, length - start))
             if not leaves:
                 raise Damaged(f"there are fewer than {length} leaves")
             try:
-                start = trees.push_all(leaves)
+                take(leaves)
             except BadArgument:
                 raise Damaged(f"a leaf behind the first {start} is none") from None
-        return trees
+            start += len(leaves)
 
     def _drop_trees(self) -> None:
         if self._trees is not None:

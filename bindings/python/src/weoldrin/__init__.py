@@ -19,12 +19,24 @@ from .faults import BadLine, Empty, Fault, Missing, Rewritten, RolledBack, Spoil
 from .incremental import NewRecords, audit_new
 from .logs import Log, OperatorLog, PackageLog, library_version, log_id, log_of, record_id
 from .printing import print_lines, printable
-from .proofs import leaf, verify_absence, verify_consistency, verify_inclusion, verify_presence
+from .proofs import (
+    ShownLeaf,
+    compare_checkpoints,
+    compare_leaves,
+    leaf,
+    verify_absence,
+    verify_consistency,
+    verify_inclusion,
+    verify_presence,
+)
 from .signatures import verify
-from .trees import LogHead, RegistryTrees
+from .trees import LogHead, RegistryTrees, saved_leaves
 from .values import (
+    CheckpointComparison,
     Comparison,
     Kind,
+    Last,
+    LeafComparison,
     Link,
     LogKind,
     Namespace,
@@ -42,12 +54,15 @@ __all__ = [
     "BadLine",
     "Busy",
     "Checkpoint",
+    "CheckpointComparison",
     "Comparison",
     "Empty",
     "Error",
     "Fault",
     "Forked",
     "Kind",
+    "Last",
+    "LeafComparison",
     "Link",
     "Log",
     "LogHead",
@@ -71,6 +86,7 @@ __all__ = [
     "Rewritten",
     "RolledBack",
     "RunError",
+    "ShownLeaf",
     "SignatureCheck",
     "SignedCheckpoint",
     "SpoiledState",
@@ -85,6 +101,8 @@ __all__ = [
     "audit",
     "audit_many",
     "audit_new",
+    "compare_checkpoints",
+    "compare_leaves",
     "envelopes_of",
     "kind_of",
     "leaf",
@@ -95,6 +113,7 @@ __all__ = [
     "printable",
     "processes",
     "record_id",
+    "saved_leaves",
     "verify",
     "verify_absence",
     "verify_consistency",

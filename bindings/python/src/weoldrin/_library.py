@@ -18,7 +18,7 @@ Bytes = bytes | bytearray | memoryview
 # The greatest number that a call takes. `ctypes` passes a greater one on without its upper digits.
 GREATEST = 2**64 - 1
 
-_NO_ID = "BadText: an id is not the text of one"
+NO_ID = "BadText: an id is not the text of one"
 _RESUMED = "Resumed: the log was resumed, and its records are elsewhere"
 # What is said of a bad argument where the library says nothing of it.
 _MISUSES = {
@@ -28,11 +28,12 @@ _MISUSES = {
     "compare": _RESUMED,
     "holds": "UnknownPermission: logs of this kind have no such permission",
     "latest": "BadRequirement: the text is no requirement of versions, such as >=1.2, <2",
-    "leaf": _NO_ID,
+    "leaf": NO_ID,
     "length": _RESUMED,
     "record": _RESUMED,
-    "registry_head": _NO_ID,
-    "registry_push": _NO_ID,
+    "registry_head": NO_ID,
+    "registry_push": NO_ID,
+    "registry_resume": "BadLength: the bytes are no multiple of 64",
     "release": "BadVersion: the text is no version, such as 1.2.0",
     "verify": "BadText: the text of the key or of the signature can't be read",
     "verify_checkpoint": "BadText: a root is not the text of one, or the key's id or the signature can't be read",
@@ -64,6 +65,18 @@ class Kept(ctypes.Structure):
     """A `struct warg_kept`."""
 
     _fields_ = [("envelope_len", ctypes.c_size_t), ("id_len", ctypes.c_size_t)]
+
+
+class Head(ctypes.Structure):
+    """A `struct warg_head`."""
+
+    _fields_ = [
+        ("seconds", ctypes.c_int64),
+        ("count", ctypes.c_size_t),
+        ("nanos", ctypes.c_uint32),
+        ("version", ctypes.c_uint32),
+        ("is_counted", ctypes.c_uint32),
+    ]
 
 
 class Release(ctypes.Structure):
@@ -118,6 +131,9 @@ _REGISTRY, _U32, _U64 = ctypes.POINTER(Registry), ctypes.c_uint32, ctypes.c_uint
 # Bytes that are read, bytes that are written, and how many were written.
 _IN: list[Any] = [ctypes.c_char_p, _SIZE]
 _OUT: list[Any] = [ctypes.c_void_p, _SIZE, _USED]
+# A checkpoint without its time, and a leaf that is shown: the length and the root, both ids, and the proof.
+_CHECKPOINT: list[Any] = [_U64, *_IN, *_IN]
+_SHOWN: list[Any] = [_U64, *_IN, *_IN, *_IN, *_IN]
 
 _CALLS: dict[str, list[Any]] = {
     "open": [_LOG, _U32],
@@ -127,6 +143,7 @@ _CALLS: dict[str, list[Any]] = {
     "append_signed": [_LOG, *_IN, *_OUT],
     "verify": [*_IN, *_IN, *_IN],
     "head": [_LOG, *_OUT],
+    "head_of": [_LOG, ctypes.POINTER(Head)],
     "length": [_LOG, _USED],
     "record": [_LOG, _SIZE, *_OUT, ctypes.POINTER(Kept)],
     "id": [_U32, *_IN, *_OUT],
@@ -148,6 +165,8 @@ _CALLS: dict[str, list[Any]] = {
     "verify_presence": [*_IN, *_IN, *_IN, *_IN],
     "verify_absence": [*_IN, *_IN, *_IN],
     "proof_fault": [_U32, *_IN, *_OUT],
+    "compare_checkpoints": [*_CHECKPOINT, *_CHECKPOINT, *_IN, ctypes.POINTER(_U32)],
+    "compare_leaves": [_U64, *_SHOWN, *_SHOWN, ctypes.POINTER(_U32)],
     "checkpoint_message": [_U64, *_IN, *_IN, _U64, *_OUT],
     "verify_checkpoint": [_LOG, _U64, *_IN, *_IN, _U64, *_IN, *_IN],
     "registry_open": [_REGISTRY],
@@ -158,6 +177,8 @@ _CALLS: dict[str, list[Any]] = {
     "registry_inclusion": [_REGISTRY, _U64, *_OUT],
     "registry_consistency": [_REGISTRY, _U64, *_OUT],
     "registry_head": [_REGISTRY, *_IN, *_OUT, ctypes.POINTER(LogHead)],
+    "registry_save": [_REGISTRY, *_OUT],
+    "registry_resume": [_REGISTRY, *_IN],
     "version": [*_OUT],
 }
 

@@ -11,7 +11,19 @@ from . import _library
 from ._library import CALLS, Buffer, Bytes, bytes_of, checked, text_bytes, texts
 from .checkpoints import Checkpoint, words_of
 from .errors import BadArgument, Busy, Forked
-from .values import Comparison, Link, LogKind, Namespace, Record, Relation, Release, SignatureCheck, Verify, kind_of
+from .values import (
+    Comparison,
+    Last,
+    Link,
+    LogKind,
+    Namespace,
+    Record,
+    Relation,
+    Release,
+    SignatureCheck,
+    Verify,
+    kind_of,
+)
 
 T = TypeVar("T")
 # A log of one kind: the class that a call is made of.
@@ -127,6 +139,13 @@ class Log:
     def head(self) -> str | None:
         """The id of the last record; none before any."""
         return self._text("head")
+
+    def last(self) -> Last | None:
+        """The time and the version of the last record, and how many there are; none before any."""
+        head = _library.Head()
+        if not self._done("head_of", head):
+            return None
+        return Last(head.seconds * _NANOS + head.nanos, head.version, head.count if head.is_counted else None)
 
     def __len__(self) -> int:
         """How many records there are. A resumed log does not know, and raises `BadArgument`."""

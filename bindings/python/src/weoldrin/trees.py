@@ -6,14 +6,18 @@ from __future__ import annotations
 import ctypes
 import functools
 import operator
+import re
 import weakref
 from collections.abc import Iterable
 from typing import Any, NamedTuple, NoReturn
 
 from . import _library
-from ._library import CALLS, GREATEST, Buffer, checked, texts
+from ._library import CALLS, GREATEST, NO_ID, Buffer, Bytes, bytes_of, checked, texts
 from ._own_thread import OwnThread
 from .checkpoints import Checkpoint
+from .errors import BadArgument
+
+_ID = re.compile("sha256:([0-9a-fA-F]{64})")
 
 
 class LogHead(NamedTuple):
@@ -25,6 +29,19 @@ class LogHead(NamedTuple):
     """As `verify_presence` takes it, or `verify_absence` where there is no record."""
 
 
+def saved_leaves(leaves: Iterable[tuple[str, str]]) -> bytes:
+    """The bytes of leaves, each a log's id and a record's, as `RegistryTrees.to_bytes` gives those of its own. Raises
+    `BadArgument` where a text is none of an id."""
+    digits = []
+    for log_id, record_id in leaves:
+        for text in (log_id, record_id):
+            found = _ID.fullmatch(text)
+            if found is None:
+                raise BadArgument(NO_ID)
+            digits.append(found[1])
+    return bytes.fromhex("".join(digits))
+
+
 class _Handle:
     """The library's registry. All that touches it is done by one thread."""
 
@@ -34,6 +51,16 @@ class _Handle:
     def open(self) -> None:
         """Begins a registry of no leaves."""
         checked("registry_open", CALLS["registry_open"](self._registry))
+
+    def resume(self, saved: bytes) -> None:
+        """Begins a registry of leaves that were saved, in place of the one that is open."""
+        checked("registry_resume", CALLS["registry_resume"](self._registry, saved, len(saved)))
+
+    def save(self) -> bytes:
+        """The leaves."""
+        saved = Buffer().filled("registry_save", (self._registry,), room=64 * self.length())
+        assert saved is not None
+        return saved
 
     def close(self) -> None:
         """Gives its memory back."""
@@ -107,6 +134,17 @@ class RegistryTrees:
         self._finalizer.atexit = False
         self._own.made(self._handle.open)
 
+    @classmethod
+    def from_bytes(cls, saved: Bytes) -> RegistryTrees:
+        """Trees of the leaves that `to_bytes` gave, or of the first of them, made anew: this costs less than to push
+        them, since the map is made of the last record of each log alone.
+
+        Raises `BadArgument`, by the name `BadLength`, where the bytes are no multiple of 64.
+        """
+        leaves, trees = bytes_of(saved), cls()
+        trees._own.made(functools.partial(trees._handle.resume, leaves))
+        return trees
+
     def close(self) -> None:
         """Gives the memory of the trees back. Closing twice is harmless; any other call then raises `NotOpen`.
 
@@ -122,7 +160,7 @@ class RegistryTrees:
         self.close()
 
     def __reduce__(self) -> NoReturn:
-        raise TypeError("trees are not copied: push their leaves anew")
+        raise TypeError("trees are not copied: save their leaves by to_bytes")
 
     # Leaves
 
@@ -136,6 +174,12 @@ class RegistryTrees:
         there are then. Where one is refused, those before it stay."""
         passed = [texts(log_id, record_id) for log_id, record_id in leaves]
         return self._own.made(functools.partial(self._handle.push_all, passed))
+
+    def to_bytes(self) -> bytes:
+        """The leaves, as `from_bytes` takes them: 64 bytes for each, in the order in which they were pushed, the 32 of
+        its log's id and the 32 of its record's. So who keeps them may as well append the `saved_leaves` of each
+        push."""
+        return self._own.made(self._handle.save)
 
     def __len__(self) -> int:
         """How many leaves there are."""

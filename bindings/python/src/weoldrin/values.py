@@ -29,6 +29,17 @@ class Record(NamedTuple):
     id: str
 
 
+class Last(NamedTuple):
+    """What is known of a log's last record beside its id."""
+
+    timestamp: int
+    """Its time, in nanoseconds since 1970."""
+    version: int
+    """Its version of the protocol."""
+    length: int | None
+    """How many records the log has; none where it was resumed."""
+
+
 class Release(NamedTuple):
     """A release. Times are those of the records, in nanoseconds since 1970."""
 
@@ -79,6 +90,33 @@ class Comparison(NamedTuple):
     relation: Relation
     left: int
     right: int
+
+
+class CheckpointComparison(enum.Enum):
+    """How one checkpoint of a registry compares with an older one."""
+
+    SAME = 0
+    """The lengths and both roots are equal."""
+    GOES_ON = 1
+    """The newer log is longer, and the proof shows that it begins with the older one."""
+    GOES_BACK = 2
+    """The newer log is shorter than the older one: a rollback."""
+    FORK = 3
+    """The lengths are equal and a root differs: no list of leaves has both. Two signatures show that the registry
+    forked."""
+    NOT_SHOWN = 4
+    """The newer log is longer, and the proof does not show that it begins with the older one."""
+
+
+class LeafComparison(enum.Enum):
+    """How the leaves compare that are shown at one place of a registry's log under two checkpoints."""
+
+    SAME = 0
+    """Both proofs hold, and the leaves are one."""
+    FORK = 1
+    """Both proofs hold, and the leaves differ: neither log begins with the other one, or two strings collide."""
+    NOT_SHOWN = 2
+    """One of the proofs does not hold."""
 
 
 class LogKind(enum.Enum):

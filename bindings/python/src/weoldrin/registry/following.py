@@ -7,8 +7,9 @@ from collections.abc import Callable
 from ..checkpoints import Checkpoint, SignedCheckpoint
 from ..errors import BadArgument, UnknownAlgorithm
 from ..logs import Log, OperatorLog, log_id
-from ..proofs import verify_absence, verify_consistency, verify_presence
+from ..proofs import compare_checkpoints, verify_absence, verify_presence
 from ..records import key_id
+from ..values import CheckpointComparison
 from .answers import Head, Problem, Registry
 from .growing import grow
 from .told import BadAnswer, Told
@@ -16,6 +17,8 @@ from .trust import Seen, Trust
 
 # A checkpoint may be so many seconds old, and ahead of this machine's clock.
 OLDEST, AHEAD = 3_600, 600
+# What a checkpoint is to the one before it in a registry that keeps what it signed.
+GOING_ON = (CheckpointComparison.SAME, CheckpointComparison.GOES_ON)
 # The errors by which a registry says that it has no checkpoint of a length.
 NOT_THERE = ("NoLeaf", "NoCheckpoint")
 # How often the newest checkpoint may change while something under it is asked.
@@ -38,17 +41,14 @@ def is_signed(log: OperatorLog, it: SignedCheckpoint) -> bool:
         return False
 
 
-def same_roots(left: Checkpoint, right: Checkpoint) -> bool:
-    """Whether two checkpoints of one length have equal roots."""
-    return (left.log_root, left.map_root) == (right.log_root, right.map_root)
-
-
-def goes_on(old: Checkpoint, new: Checkpoint, proof: str) -> bool:
-    """Whether the log of a checkpoint is shown to go on from that of an older one. Of one length, both have to be of
-    one map too."""
-    if old.log_length == new.log_length and not same_roots(old, new):
-        return False
-    return holds(verify_consistency, old.log_length, old.log_root, new.log_length, new.log_root, proof)
+def compared(old: Checkpoint, new: Checkpoint, proof: str = "") -> CheckpointComparison:
+    """How the library compares a checkpoint with an older one. A text that is none of a proof or of a root shows
+    nothing."""
+    try:
+        return compare_checkpoints(old, new, proof)
+    except BadArgument:
+        found = compared(old, new) if proof else CheckpointComparison.NOT_SHOWN
+        return CheckpointComparison.NOT_SHOWN if found is CheckpointComparison.GOES_ON else found
 
 
 class Follower:
@@ -104,7 +104,7 @@ class Follower:
         """Raises `Told` where a checkpoint is none of the same length, or a signed one that has other roots."""
         if newest.contents.log_length != other.contents.log_length:
             raise BadAnswer("the answer is under another checkpoint than was asked for")
-        if not same_roots(newest.contents, other.contents):
+        if compared(newest.contents, other.contents) is not CheckpointComparison.SAME:
             assert self.trust.state is not None
             with OperatorLog.from_json(self.trust.state) as operator:
                 check_signed(operator, other)
@@ -205,10 +205,11 @@ def _forked(old: SignedCheckpoint, new: SignedCheckpoint) -> Told:
 def _check_goes_on(seen: SignedCheckpoint, head: Head) -> None:
     """Raises `Told` where a signed checkpoint does not go on from the one that was seen."""
     old, new = seen.contents, head.checkpoint.contents
-    if new.log_length < old.log_length:
+    found = compared(old, new, head.consistency or "")
+    if found is CheckpointComparison.GOES_BACK:
         why = f"it signed {old.log_length} leaves, and then {new.log_length}"
         raise Told("rolled back registry", why, seen, head.checkpoint, subject=f"{old.log_length}")
-    if not goes_on(old, new, head.consistency or ""):
+    if found not in GOING_ON:
         raise _forked(seen, head.checkpoint)
     if new.timestamp < old.timestamp:
         why = f"its time is {old.timestamp - new.timestamp} seconds before that of one that was seen"

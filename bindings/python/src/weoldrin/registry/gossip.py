@@ -9,12 +9,13 @@ from ..errors import BadArgument, UnknownAlgorithm
 from ..logs import OperatorLog
 from ..printing import print_lines, tell
 from ..signatures import verify
+from ..values import CheckpointComparison
 from . import asking
 from . import trust as trusted
 from .answers import Problem, checkpoint_in
 from .database import sight_in
 from .fetch import opened
-from .following import NOT_THERE, Follower, denied, goes_on, is_signed, same_roots
+from .following import GOING_ON, NOT_THERE, Follower, compared, denied, is_signed
 from .told import BadAnswer, Told, Unusable
 from .trust import Trust
 
@@ -96,7 +97,7 @@ def compare(operator: OperatorLog, left: Sight, right: Sight) -> int:
     common = sorted(left.checkpoints.keys() & right.checkpoints.keys())
     for length in common:
         one, other = left.checkpoints[length], right.checkpoints[length]
-        if not same_roots(one.contents, other.contents):
+        if compared(one.contents, other.contents) is not CheckpointComparison.SAME:
             _check_signed(operator, left, one)
             _check_signed(operator, right, other)
             raise Told("forked registry", f"two signed checkpoints of {length} leaves have other roots", one, other)
@@ -118,7 +119,7 @@ def _check_shown(follower: Follower, sight: Sight) -> None:
     with OperatorLog.from_json(follower.trust.state) as operator:
         if not is_signed(operator, new):
             raise Told("unsigned checkpoint", "no key that may sign signed the registry's newest", new)
-    if not goes_on(old.contents, new.contents, proof):
+    if compared(old.contents, new.contents, proof) not in GOING_ON:
         why = f"the log of {new.contents.log_length} leaves is not shown to go on from that of {length}"
         raise Told("forked registry", f"{why}, which {sight.name} saw", old, new)
 

@@ -11,19 +11,19 @@ from ..checkpoints import SignedCheckpoint
 from ..errors import BadArgument
 from ..logs import record_id
 from ..printing import print_lines, printable, tell
-from ..trees import RegistryTrees
+from ..trees import RegistryTrees, saved_leaves
 from . import asking
 from . import trust as trusted
-from .answers import Problem
+from .answers import Leaf, Problem
 from .database import Behind, Database
 from .fetch import opened, tell_first_use
 from .following import Follower
 from .replaying import BATCH, Replayed, Replayer, kind_of_log
 from .told import BadAnswer, NoAnswer, Told, Unusable
 
-# So many leaves are read in one step, so many are put into the trees at once, and so many logs are asked for whose head
-# in the map is wrong.
-_PAGE, _PUSHED, _ASKED = 20_000, 2_000, 200
+# So many leaves are read in one step, so many are taken for the trees at once, and so many logs are asked for whose
+# head in the map is wrong.
+_PAGE, _TAKEN, _ASKED = 20_000, 2_000, 200
 
 
 class Monitor:
@@ -99,13 +99,19 @@ class Monitor:
 
     def _trees_of(self, length: int) -> RegistryTrees:
         """The trees over all leaves that were read, of so many. They are made of them at first, and go on then."""
-        trees = self._trees = self._trees or RegistryTrees()
-        while (start := len(trees)) < length:
-            try:
-                trees.push_all(self._database.leaves(start, min(_PUSHED, length - start)))
-            except BadArgument:
-                raise Unusable(f"{self._database.path}: a leaf in it is spoiled") from None
-        return trees
+        try:
+            if self._trees is None:
+                saved = (saved_leaves(self._leaves(start, length)) for start in range(0, length, _TAKEN))
+                self._trees = RegistryTrees.from_bytes(b"".join(saved))
+            while (start := len(self._trees)) < length:
+                self._trees.push_all(self._leaves(start, length))
+        except BadArgument:
+            raise Unusable(f"{self._database.path}: a leaf in it is spoiled") from None
+        return self._trees
+
+    def _leaves(self, start: int, length: int) -> list[Leaf]:
+        """Some of the leaves from a place on, of so many."""
+        return self._database.leaves(start, min(_TAKEN, length - start))
 
     def _is_checked(self, newest: SignedCheckpoint) -> bool:
         """Whether the roots of a checkpoint were found to be those of the leaves."""
