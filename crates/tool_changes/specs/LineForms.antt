@@ -159,9 +159,13 @@ other_forms =
     ∷ record { command = codes "prove"; forms = none ∷ (a_json (codes "checkpoint") ∷ []) ∷ proof ∷ [] }
     ∷ record {
       command = codes "verify";
-      forms = (a_tag (codes "verdict") (codes "holds") (codes "holds") ∷ []) ∷
-          (a_tag (codes "verdict") (codes "does") (codes "does not hold") ∷ a_word (codes "not") ∷ a_word (codes "hold") ∷ []) ∷ [];
+      forms = refused ∷ bad_line ∷ (a_tag (codes "verdict") (codes "holds") (codes "holds") ∷ []) ∷
+          (a_tag (codes "verdict") (codes "does") (codes "does not hold") ∷ a_word (codes "not") ∷ a_word (codes "hold") ∷ []) ∷
+          (a_tag (codes "verdict") (codes "may") (codes "may not sign") ∷ a_word (codes "not") ∷ a_word (codes "sign") ∷ []) ∷
+          (a_tag (codes "verdict") (codes "does") (codes "does not belong") ∷ a_word (codes "not") ∷ a_word (codes "belong") ∷ []) ∷
+          (a_tag (codes "verdict") (codes "other") (codes "other scheme") ∷ a_word (codes "scheme") ∷ []) ∷ [];
     }
+    ∷ record { command = codes "message"; forms = (a_text (codes "message") ∷ []) ∷ [] }
     ∷ []
 
 -- whether a command tells records, or where they are

@@ -165,7 +165,7 @@ const STATE: Form = Form {
     parts: &[Part::Json("state")],
 };
 
-static OTHER_FORMS: [CommandForms; 12] = [
+static OTHER_FORMS: [CommandForms; 13] = [
     CommandForms {
         command: "id",
         forms: &[
@@ -282,6 +282,8 @@ static OTHER_FORMS: [CommandForms; 12] = [
     CommandForms {
         command: "verify",
         forms: &[
+            REFUSED,
+            BAD_LINE,
             Form {
                 parts: &[Part::Tag("verdict", "holds", "holds")],
             },
@@ -292,7 +294,33 @@ static OTHER_FORMS: [CommandForms; 12] = [
                     Part::Word("hold"),
                 ],
             },
+            Form {
+                parts: &[
+                    Part::Tag("verdict", "may", "may not sign"),
+                    Part::Word("not"),
+                    Part::Word("sign"),
+                ],
+            },
+            Form {
+                parts: &[
+                    Part::Tag("verdict", "does", "does not belong"),
+                    Part::Word("not"),
+                    Part::Word("belong"),
+                ],
+            },
+            Form {
+                parts: &[
+                    Part::Tag("verdict", "other", "other scheme"),
+                    Part::Word("scheme"),
+                ],
+            },
         ],
+    },
+    CommandForms {
+        command: "message",
+        forms: &[Form {
+            parts: &[Part::Text("message")],
+        }],
     },
 ];
 

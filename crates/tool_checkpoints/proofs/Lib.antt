@@ -2,4 +2,5 @@ mod HeadLemmas
 pub mod RegistryLemmas
 pub mod WordLemmas
 mod CheckpointLemmas
+mod SignedLemmas
 pub mod ProofTextLemmas

@@ -1,5 +1,6 @@
 pub mod Words
 pub mod Proofs
+pub mod CheckpointAnswers
 pub mod RegistryLeaves
 pub mod ProofTexts
 pub mod LogIdTexts

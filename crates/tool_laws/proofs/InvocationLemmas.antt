@@ -51,6 +51,7 @@ module _ (look : Look) (names : ArePrintable look.names) (text : List ℕ) (h : 
   layout_clean (request.LogId log) = h
   layout_clean (request.Prove wanted path) = h
   layout_clean (request.Verify statement) = h
+  layout_clean (request.Checkpoint query) = h
   layout_clean (request.Ask kind it) = question_layout it
   layout_clean (request.Do kind it) = h
 
@@ -65,6 +66,7 @@ makes_same (request.Latest requirement path) look plain printed e made = tt
 makes_same (request.LogId log) look plain printed e made = tt
 makes_same (request.Prove wanted path) look plain printed e made = tt
 makes_same (request.Verify statement) look plain printed e made = tt
+makes_same (request.Checkpoint query) look plain printed e made = tt
 makes_same (request.Ask kind question) look plain printed e made = tt
 makes_same (request.Do kind task) look plain printed e made = subst (λ (p : OutputData). IfMakes (request.Do kind task) p.text) e made
 

@@ -14,6 +14,7 @@ pub mod QuestionLemmas
 pub mod ShowLemmas
 pub mod ProofLemmas
 pub mod CheckpointLemmas
+pub mod SignedLemmas
 pub mod HexLemmas
 pub mod TaskLemmas
 pub mod RequestLemmas

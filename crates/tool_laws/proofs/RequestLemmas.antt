@@ -32,6 +32,7 @@ use Rattle.tool_laws.specs.Plain.Plain.{is_plain}
 use Rattle.tool_laws.specs.Premises.{IfMakes}
 use Rattle.tool_laws.proofs.AuditLemmas.{many_clean, one_clean}
 use Rattle.tool_laws.proofs.CheckpointLemmas.{log_id_clean, proof_clean, statement_clean}
+use Rattle.tool_laws.proofs.SignedLemmas.{checkpoint_clean}
 use Rattle.tool_laws.proofs.FileLemmas.{lines_clean, words_clean}
 use Rattle.tool_laws.proofs.KindLemmas.{operator_plain, package_plain}
 use Rattle.tool_laws.proofs.LatestLemmas.{id_clean, latest_of_clean}
@@ -110,5 +111,6 @@ request_clean json belongs old new (request.Latest requirement path) printed h m
 request_clean json belongs old new (request.LogId log) printed h made = log_id_clean log printed h
 request_clean json belongs old new (request.Prove wanted path) printed h made = proof_clean old wanted path.now printed h
 request_clean json belongs old new (request.Verify statement) printed h made = statement_clean old statement printed h
+request_clean json belongs old new (request.Checkpoint query) printed h made = checkpoint_clean belongs old query printed h
 request_clean json belongs old new (request.Ask kind question) printed h made = asked_clean kind belongs old question printed h
 request_clean json belongs old new (request.Do kind it) printed h made = done_clean kind belongs old new it printed h made

@@ -27,5 +27,6 @@ IfMakes (request.Latest requirement path) text = Unit {0}
 IfMakes (request.LogId log) text = Unit {0}
 IfMakes (request.Prove wanted path) text = Unit {0}
 IfMakes (request.Verify statement) text = Unit {0}
+IfMakes (request.Checkpoint query) text = Unit {0}
 IfMakes (request.Ask kind question) text = Unit {0}
 IfMakes (request.Do kind it) text = IfMade it text

@@ -5,6 +5,7 @@ ghost use Rattle.tool_answers.specs.Verdicts.{IsNegative};
 ghost use Rattle.warg_audit.specs.Answers.{IsIdAnswer};
 ghost use Rattle.warg_audit.specs.LogKinds.{operator_log, package_log};
 ghost use Rattle.warg_audit.specs.Printouts.{OutputData};
+ghost use Rattle.tool_checkpoints.specs.CheckpointAnswers.{IsCheckpointAnswer};
 ghost use Rattle.tool_checkpoints.specs.LogIdTexts.{IsLogIdAnswer};
 ghost use Rattle.tool_checkpoints.specs.ProofTexts.{IsProofAnswer};
 ghost use Rattle.tool_checkpoints.specs.Proofs.{IsStatementVerdict};
@@ -16,6 +17,7 @@ ghost use Rattle.warg_protocol.specs.Logs.{SignatureRelation};
 ghost use Rattle.tool_changes.specs.JsonLines.{IsInJson};
 ghost use Rattle.tool_changes.specs.ManyAudits.{IsManyAnswer, IsOneAnswer};
 ghost use Rattle.tool_changes.specs.Tasks.{IsDoneAnswer};
+ghost use Rattle.tool_words.specs.declared.checkpoint.CheckpointQuery.{CheckpointQuery};
 ghost use Rattle.tool_words.specs.declared.request.Demands.{Demands};
 ghost use Rattle.tool_words.specs.declared.request.Invocation.{Invocation};
 ghost use Rattle.tool_words.specs.declared.request.LogQuery.{LogQuery};
@@ -88,6 +90,13 @@ pub fn proofs_are_printed()
 pub fn statements_are_printed()
     ensures { (files : Option Files) (statement : Statement) (printed : OutputData) →
         IsStatementVerdict files statement printed → IsPrintedText printed.text }
+{}
+
+/// So is the message that is signed of a checkpoint, and what is said of its signature.
+pub fn checkpoint_answers_are_printed()
+    ensures { (belongs : SignatureRelation) (files : Option Files) (query : CheckpointQuery)
+        (printed : OutputData) → IsCheckpointAnswer files belongs query printed →
+        IsPrintedText printed.text }
 {}
 
 /// So are the answers to tasks: claims, records that are made, where their hex digits are those of bytes, and additions.

@@ -33,6 +33,7 @@ commands =
     (codes "claims", command.Do doing.Claims) ∷
     (codes "make", command.Do doing.Make) ∷
     (codes "append", command.Do doing.Append) ∷
+    (codes "message", command.Message) ∷
     []
 
 -- those of `log-id`
@@ -54,6 +55,7 @@ proofs =
 -- those of `verify`
 abbrev pub statements : List (List ℕ × Verifying)
 statements =
+    (codes "checkpoint", verifying.Checkpoint) ∷
     (codes "inclusion", verifying.Inclusion) ∷
     (codes "consistency", verifying.Consistency) ∷
     (codes "head", verifying.Head) ∷
@@ -97,12 +99,14 @@ forms (command.Ask asking.Compare) = Kind ∷ File ∷ File ∷ []
 forms (command.Do doing.Claims) = Kind ∷ Input ∷ []
 forms (command.Do doing.Make) = Kind ∷ File ∷ Word ∷ Words ∷ []
 forms (command.Do doing.Append) = Kind ∷ File ∷ Input ∷ []
+forms command.Message = File ∷ Word ∷ []
 forms (command.LogId naming.Package) = Word ∷ []
 forms (command.LogId naming.Operator) = []
 forms (command.Prove proving.Checkpoint) = Input ∷ []
 forms (command.Prove proving.Inclusion) = Word ∷ Input ∷ []
 forms (command.Prove proving.Consistency) = Word ∷ Input ∷ []
 forms (command.Prove proving.Head) = Word ∷ Input ∷ []
+forms (command.Verify verifying.Checkpoint) = File ∷ Input ∷ []
 forms (command.Verify verifying.Inclusion) = File ∷ Word ∷ Word ∷ Word ∷ File ∷ []
 forms (command.Verify verifying.Consistency) = File ∷ File ∷ File ∷ []
 forms (command.Verify verifying.Head) = File ∷ Word ∷ Word ∷ File ∷ []
@@ -173,6 +177,11 @@ options (command.Ask asking.Compare) = of_logs
 options (command.Do doing.Claims) = of_logs
 options (command.Do doing.Make) = of_making
 options (command.Do doing.Append) = of_logs
+options command.Message = of_files
 options (command.LogId it) = of_all
 options (command.Prove it) = of_files
-options (command.Verify it) = of_files
+options (command.Verify verifying.Checkpoint) = of_logs
+options (command.Verify verifying.Inclusion) = of_files
+options (command.Verify verifying.Consistency) = of_files
+options (command.Verify verifying.Head) = of_files
+options (command.Verify verifying.Absence) = of_files

@@ -3,7 +3,7 @@ use Rattle.std.specs.Prelude.{◌≡◌, ℕ, Bool, true, false, List, [], ◌�
 use Rattle.std.specs.Borrow.{Bor}
 use Rattle.std.specs.Option.{option_map}
 use Rattle.tool_words.specs.Parts.{has, place, value}
-use Rattle.tool_words.specs.Rules.{is_one_log, key_text, kind_of, limit_in, number_in, signer_in, SignerData, toy}
+use Rattle.tool_words.specs.Rules.{is_one_log, key_text, kind_of, limit_in, number_in, schemes_in, signer_in, SignerData, toy}
 use Rattle.tool_words.specs.declared.command.Command.{Command}
 use Rattle.tool_words.specs.declared.command.Command.TheVariants as command
 use Rattle.tool_words.specs.declared.command.Asking.TheVariants as asking
@@ -11,6 +11,8 @@ use Rattle.tool_words.specs.declared.command.Doing.TheVariants as doing
 use Rattle.tool_words.specs.declared.command.Naming.TheVariants as naming
 use Rattle.tool_words.specs.declared.command.Proving.TheVariants as proving
 use Rattle.tool_words.specs.declared.command.Verifying.TheVariants as verifying
+use Rattle.tool_words.specs.declared.checkpoint.CheckpointQuery.{CheckpointQuery}
+use Rattle.tool_words.specs.declared.checkpoint.CheckpointQuery.TheVariants as query
 use Rattle.tool_words.specs.declared.request.Demands.{Demands}
 use Rattle.tool_words.specs.declared.request.LogQuery.{LogQuery}
 use Rattle.tool_words.specs.declared.request.LogQuery.TheVariants as question
@@ -103,6 +105,14 @@ module _ (called : Command) (places : List (List ℕ)) (given : List (List ℕ �
   IsStatement (statement.Absence checkpoint log_id proof) =
       (called ≡ command.Verify verifying.Absence) × (checkpoint.now ≡ place 0 places) × (log_id.now ≡ place 1 places) × (proof.now ≡ place 2 places)
 
+  -- what is asked of a checkpoint
+  abbrev pub IsCheckpointQuery : CheckpointQuery → Type 0
+  IsCheckpointQuery (query.Message checkpoint time) =
+      (called ≡ command.Message) × (checkpoint.now ≡ place 0 places) × (time.now ≡ place 1 places)
+  IsCheckpointQuery (query.Signature checkpoint log schemes) =
+      (called ≡ command.Verify verifying.Checkpoint) × (checkpoint.now ≡ place 0 places) × (log.now ≡ place 1 places)
+      × (schemes ≡ schemes_in given)
+
   -- what is asked
   abbrev pub IsRequest : Request → Type 0
   IsRequest (request.Id kind log) = (called ≡ command.Id) × (kind ≡ kind_of (place 0 places)) × (log.now ≡ place 1 places)
@@ -117,5 +127,6 @@ module _ (called : Command) (places : List (List ℕ)) (given : List (List ℕ �
   IsRequest (request.LogId log) = IsNamedLog log
   IsRequest (request.Prove wanted leaves) = IsWanted wanted leaves.now
   IsRequest (request.Verify statement) = IsStatement statement
+  IsRequest (request.Checkpoint query) = IsCheckpointQuery query
   IsRequest (request.Ask kind question) = (kind ≡ kind_of (place 0 places)) × IsLogQuery question
   IsRequest (request.Do kind task) = (kind ≡ kind_of (place 0 places)) × IsTask task

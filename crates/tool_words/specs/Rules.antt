@@ -11,6 +11,8 @@ use Rattle.tool_words.specs.Parts.{has, Parts, place, value}
 use Rattle.tool_words.specs.declared.command.Command.{Command}
 use Rattle.tool_words.specs.declared.command.Command.TheVariants as command
 use Rattle.tool_words.specs.declared.command.Doing.TheVariants as doing
+use Rattle.tool_words.specs.declared.checkpoint.Schemes.{Schemes}
+use Rattle.tool_words.specs.declared.checkpoint.Schemes.TheVariants as schemes
 
 -- whether so many words fill the places
 abbrev pub fills : List Form → ℕ → Bool
@@ -88,6 +90,11 @@ number_in (Some digits) = number digits
 -- how many bytes a file may have: 16 MiB where no other number is given
 abbrev pub limit_in : List (List ℕ × List ℕ) → ℕ
 limit_in given = unwrap_or (number_in (value (codes "--limit") given)) 16_777_216
+
+-- of which schemes keys may be whose signatures are taken: of any where a file lists what was verified
+abbrev pub schemes_in : List (List ℕ × List ℕ) → Schemes
+schemes_in given =
+    if has (codes "--verified") given then schemes.Any else if has (codes "--toy") given then schemes.WithToy else schemes.Known
 
 -- whether an option that is given says a number
 abbrev pub is_number : Option (List ℕ) → Bool

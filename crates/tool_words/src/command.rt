@@ -40,6 +40,7 @@ pub(crate) enum Proving {
 /// What is verified.
 #[derive(Clone, Copy, Debug, PartialEq, Eq)]
 pub(crate) enum Verifying {
+    Checkpoint,
     Inclusion,
     Consistency,
     Head,
@@ -55,6 +56,7 @@ pub(crate) enum Command {
     Latest,
     Ask(Asking),
     Do(Doing),
+    Message,
     LogId(Naming),
     Prove(Proving),
     Verify(Verifying),
@@ -77,6 +79,7 @@ pub(crate) fn of_name(name: &str) -> Option<Command>
         "claims" => Some(Command::Do(Doing::Claims)),
         "make" => Some(Command::Do(Doing::Make)),
         "append" => Some(Command::Do(Doing::Append)),
+        "message" => Some(Command::Message),
         _ => None,
     }
 }
@@ -107,6 +110,7 @@ fn verifying_of(name: &str) -> Option<Verifying>
     ensures { result ≡ named name.now statements }
 {
     match name {
+        "checkpoint" => Some(Verifying::Checkpoint),
         "inclusion" => Some(Verifying::Inclusion),
         "consistency" => Some(Verifying::Consistency),
         "head" => Some(Verifying::Head),
@@ -145,10 +149,12 @@ impl Command {
             Command::Do(Doing::Claims) => 1,
             Command::Do(Doing::Make) => 3,
             Command::Do(Doing::Append) => 2,
+            Command::Message => 2,
             Command::LogId(Naming::Package) => 1,
             Command::LogId(Naming::Operator) => 0,
             Command::Prove(Proving::Checkpoint) => 0,
             Command::Prove(Proving::Inclusion | Proving::Consistency | Proving::Head) => 1,
+            Command::Verify(Verifying::Checkpoint) => 1,
             Command::Verify(Verifying::Inclusion) => 5,
             Command::Verify(Verifying::Consistency | Verifying::Absence) => 3,
             Command::Verify(Verifying::Head) => 4,
@@ -168,10 +174,12 @@ impl Command {
             Command::Do(Doing::Claims) => 2,
             Command::Do(Doing::Make) => 4,
             Command::Do(Doing::Append) => 3,
+            Command::Message => 2,
             Command::LogId(Naming::Package) => 1,
             Command::LogId(Naming::Operator) => 0,
             Command::Prove(Proving::Checkpoint) => 1,
             Command::Prove(Proving::Inclusion | Proving::Consistency | Proving::Head) => 2,
+            Command::Verify(Verifying::Checkpoint) => 2,
             Command::Verify(Verifying::Inclusion) => 5,
             Command::Verify(Verifying::Consistency | Verifying::Absence) => 3,
             Command::Verify(Verifying::Head) => 4,
@@ -185,7 +193,7 @@ impl Command {
         match self {
             Command::Audit | Command::Do(Doing::Make) => true,
             Command::Id | Command::Show | Command::Latest | Command::Ask(_) => false,
-            Command::Do(Doing::Claims | Doing::Append) => false,
+            Command::Do(Doing::Claims | Doing::Append) | Command::Message => false,
             Command::LogId(_) | Command::Prove(_) | Command::Verify(_) => false,
         }
     }
@@ -196,7 +204,7 @@ impl Command {
     {
         match self {
             Command::Id | Command::Audit | Command::Show | Command::Ask(_) | Command::Do(_) => true,
-            Command::Latest => false,
+            Command::Latest | Command::Message => false,
             Command::LogId(_) | Command::Prove(_) | Command::Verify(_) => false,
         }
     }

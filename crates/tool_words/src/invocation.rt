@@ -4,12 +4,14 @@ ghost use Rattle.std.specs.Prelude.{◌≡◌, drop, false, IfOk, MatchOption, S
 ghost use Rattle.tool_words.specs.Commands.{command_of};
 ghost use Rattle.tool_words.specs.Invocations.{call_by, call_if_taken, invocation_of, IsCalled, named_by, word};
 ghost use Rattle.tool_words.specs.PartsViews.{parts_view};
-ghost use Rattle.tool_words.specs.Requests.{AreDemands, IsNamedLog, IsNewRecord, IsLogQuery, IsRequest, IsStatement, IsTask, IsWanted, texts};
+ghost use Rattle.tool_words.specs.Requests.{AreDemands, IsCheckpointQuery, IsNamedLog, IsNewRecord, IsLogQuery, IsRequest, IsTask, IsWanted, texts};
 ghost use Rattle.tool_words.specs.Parts.{place};
 ghost use Rattle.tool_words.specs.Rules.{is_taken, kind_of};
 ghost use Rattle.tool_words.specs.declared.command.Command.TheVariants as command;
 ghost use Rattle.tool_words.specs.declared.command.Doing.TheVariants as doing;
+ghost use Rattle.tool_words.specs.declared.command.Verifying.TheVariants as verifying;
 
+use crate::checkpoint::CheckpointQuery;
 use crate::command::{Asking, Command, Doing, Naming, Proving, Verifying};
 use crate::parts::Parts;
 use crate::request::{Demands, Invocation, LogQuery, Request};
@@ -47,7 +49,7 @@ pub(crate) fn named_by(command: Command) -> usize
     match command {
         Command::LogId(_) | Command::Prove(_) | Command::Verify(_) => 3,
         Command::Id | Command::Audit | Command::Show | Command::Latest => 2,
-        Command::Ask(_) | Command::Do(_) => 2,
+        Command::Ask(_) | Command::Do(_) | Command::Message => 2,
     }
 }
 
@@ -189,11 +191,40 @@ impl<'a> Parts<'a> {
         }
     }
 
-    fn statement(&self, verifying: Verifying) -> Statement<'a>
-        ensures { IsStatement (command.Verify verifying) (parts_view self.now).places
+    // What is signed of a checkpoint.
+    fn message(&self) -> CheckpointQuery<'a>
+        ensures { IsCheckpointQuery command.Message (parts_view self.now).places
             (parts_view self.now).given result }
     {
-        match verifying {
+        CheckpointQuery::Message {
+            checkpoint: self.place(0),
+            time: self.place(1),
+        }
+    }
+
+    // Whether a checkpoint is signed.
+    fn signature(&self) -> CheckpointQuery<'a>
+        ensures { IsCheckpointQuery (command.Verify verifying.Checkpoint)
+            (parts_view self.now).places (parts_view self.now).given result }
+    {
+        CheckpointQuery::Signature {
+            checkpoint: self.place(0),
+            log: self.place(1),
+            schemes: self.schemes(),
+        }
+    }
+
+    // What is to be verified.
+    fn verdict_request(&self, verifying: Verifying) -> Request<'a>
+        ensures { IsRequest (command.Verify verifying) (parts_view self.now).places
+            (parts_view self.now).given result }
+    {
+        let statement = match verifying {
+            Verifying::Checkpoint => {
+                return Request::Checkpoint {
+                    query: self.signature(),
+                };
+            }
             Verifying::Inclusion => Statement::Inclusion {
                 checkpoint: self.place(0),
                 place: self.place(1),
@@ -215,7 +246,8 @@ impl<'a> Parts<'a> {
                 log_id: self.place(1),
                 proof: self.place(2),
             },
-        }
+        };
+        Request::Verify { statement }
     }
 
     fn audit(&self, alloc: Global, kind: LogKind) -> Result<Request<'a>, AllocError>
@@ -271,9 +303,10 @@ impl<'a> Parts<'a> {
                 log: self.named_log(naming),
             })),
             Command::Prove(proving) => Ok(Some(self.proof_request(proving))),
-            Command::Verify(verifying) => Ok(Some(Request::Verify {
-                statement: self.statement(verifying),
+            Command::Message => Ok(Some(Request::Checkpoint {
+                query: self.message(),
             })),
+            Command::Verify(verifying) => Ok(Some(self.verdict_request(verifying))),
         }
     }
 }

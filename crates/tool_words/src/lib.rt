@@ -1,6 +1,7 @@
 //! The words of the program `weoldrin`: its commands, as its help shows them, and what its words ask for.
 #![tactic(auto)]
 
+mod checkpoint;
 mod command;
 mod invocation;
 mod log_commands;
@@ -15,6 +16,7 @@ mod task;
 mod version;
 mod words;
 
+pub use checkpoint::{CheckpointQuery, Schemes};
 pub use pleas::{asks_for_json, named_command};
 pub use request::{Demands, Invocation, LogQuery, Request, Said};
 pub use statement::{LeafIds, NamedLog, Statement, Wanted};

@@ -50,7 +50,8 @@ const NAMES: Choice = Choice {
     help: "Names keys as this file does: an id or a key's text, a space, a name",
 };
 
-const OF_LOGS: &[Choice] = &[JSON, LIMIT, VERIFIED, TOY];
+/// Of commands that audit a log.
+pub(crate) const OF_LOGS: &[Choice] = &[JSON, LIMIT, VERIFIED, TOY];
 
 const OF_SHOWN: &[Choice] = &[JSON, LIMIT, VERIFIED, TOY, FULL, NAMES];
 

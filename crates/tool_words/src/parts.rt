@@ -8,7 +8,7 @@ ghost use Rattle.tool_words.specs.Parts.{and_words, has, is_equals, is_place, no
 ghost use Rattle.tool_words.specs.PartsViews.{given_view, IfRead, parts_view};
 ghost use Rattle.tool_words.specs.Requests.{text_in, texts};
 
-use crate::command::{Asking, Command, Doing};
+use crate::command::{Asking, Command, Doing, Verifying};
 use std::alloc::{AllocError, Global};
 
 /// An option that is given, with its value; that of a flag is empty.
@@ -96,7 +96,10 @@ fn option_of(command: Command, name: &str) -> Option<bool>
         Command::Latest | Command::Do(Doing::Claims | Doing::Append) => log_option(name),
         Command::Ask(Asking::State | Asking::Resume | Asking::Permissions | Asking::Compare) =>
             log_option(name),
-        Command::Id | Command::Prove(_) | Command::Verify(_) => file_option(name),
+        Command::Verify(Verifying::Checkpoint) => log_option(name),
+        Command::Id | Command::Message | Command::Prove(_) => file_option(name),
+        Command::Verify(Verifying::Inclusion | Verifying::Consistency) => file_option(name),
+        Command::Verify(Verifying::Head | Verifying::Absence) => file_option(name),
         Command::LogId(_) => common_option(name),
     }
 }

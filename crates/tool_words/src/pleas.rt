@@ -40,7 +40,8 @@ fn is_grouped(called: Option<Command>) -> bool
             | Command::Show
             | Command::Latest
             | Command::Ask(_)
-            | Command::Do(_),
+            | Command::Do(_)
+            | Command::Message,
         ) => false,
         None => false,
     }

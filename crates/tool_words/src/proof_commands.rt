@@ -1,5 +1,6 @@
 //! The commands on a registry's logs, and on its log of leaves and its map.
 
+use crate::log_commands::OF_LOGS;
 use crate::table::{Form, JSON, LIMIT, Row, Word};
 
 const LEAVES: Word = Word {
@@ -99,8 +100,48 @@ pub(crate) const PROVE: &[Row] = &[
     },
 ];
 
+/// What is signed of a checkpoint.
+pub(crate) const MESSAGE: &[Row] = &[Row {
+    name: "message",
+    about: "Prints what a registry's key signs of a checkpoint at a time, in hex",
+    example: "Example: weoldrin message checkpoint.json 1700000000
+
+The checkpoint is as `prove checkpoint` prints it. Turn the hex digits into bytes,
+and sign these: xxd -r -p message.hex | openssl dgst -sha256 -sign KEY.pem",
+    words: &[
+        CHECKPOINT,
+        Word {
+            name: "TIME",
+            form: Form::Required,
+            help: "The checkpoint's time, in whole seconds since 1970",
+        },
+    ],
+    choices: &[JSON, LIMIT],
+}];
+
 /// What is verified.
 pub(crate) const VERIFY: &[Row] = &[
+    Row {
+        name: "checkpoint",
+        about: "Whether a checkpoint is signed by a key that the operators' log lets sign",
+        example: "Example: weoldrin verify checkpoint signed.json operator.hex
+
+The checkpoint is as a registry answers it, with the members contents, keyId and
+signature. The log is audited first.",
+        words: &[
+            Word {
+                name: "CHECKPOINT",
+                form: Form::Required,
+                help: "The file of the signed checkpoint's JSON",
+            },
+            Word {
+                name: "LOG",
+                form: Form::Input,
+                help: "The file of the operators' log",
+            },
+        ],
+        choices: OF_LOGS,
+    },
     Row {
         name: "inclusion",
         about: "Whether a leaf stands at a place of the log",

@@ -7,6 +7,7 @@ ghost use Rattle.tool_words.specs.declared.request.Request.TheVariants as asked;
 ghost use Rattle.tool_words.specs.declared.task.NewRecord.{NewRecord as OfNewRecord};
 ghost use Rattle.tool_words.specs.declared.task.Task.TheVariants as task;
 
+use crate::checkpoint::CheckpointQuery;
 use crate::statement::{NamedLog, Statement, Wanted};
 use crate::task::Task;
 use warg_audit::LogKind;
@@ -129,6 +130,11 @@ pub enum Request<'a> {
     Verify {
         /// What it is.
         statement: Statement<'a>,
+    },
+    /// What is asked of a checkpoint.
+    Checkpoint {
+        /// What it is.
+        query: CheckpointQuery<'a>,
     },
     /// What is asked of logs of one kind.
     Ask {

@@ -5,8 +5,9 @@ ghost use Rattle.std.specs.Option.{option_map};
 ghost use Rattle.tool_words.specs.Commands.{forms};
 ghost use Rattle.tool_words.specs.PartsViews.{parts_view};
 ghost use Rattle.tool_words.specs.Requests.{signer_view, text_in, texts};
-ghost use Rattle.tool_words.specs.Rules.{fills, has_demand, is_kind, is_make, is_number, is_one_log, is_some_stdin, is_stdin, is_taken, kind_of, limit_in, more_files, number, number_in, one_if, read_places, reads_once, signer_in, signer_of, stdin_files, stdin_options, stdin_places, takes_options, takes_places};
+ghost use Rattle.tool_words.specs.Rules.{fills, has_demand, is_kind, is_make, is_number, is_one_log, is_some_stdin, is_stdin, is_taken, kind_of, limit_in, more_files, number, number_in, one_if, read_places, reads_once, schemes_in, signer_in, signer_of, stdin_files, stdin_options, stdin_places, takes_options, takes_places};
 
+use crate::checkpoint::Schemes;
 use crate::command::{Asking, Command, Doing, Proving, Verifying};
 use crate::invocation::words_from;
 use crate::parts::Parts;
@@ -78,8 +79,10 @@ fn read_places(command: Command) -> &'static [usize]
         Command::Do(Doing::Claims | Doing::Make) => &[1],
         Command::Do(Doing::Append) => &[1, 2],
         Command::LogId(_) => &[],
+        Command::Message => &[0],
         Command::Prove(Proving::Checkpoint) => &[0],
         Command::Prove(Proving::Inclusion | Proving::Consistency | Proving::Head) => &[1],
+        Command::Verify(Verifying::Checkpoint) => &[0, 1],
         Command::Verify(Verifying::Inclusion) => &[0, 4],
         Command::Verify(Verifying::Consistency) => &[0, 1, 2],
         Command::Verify(Verifying::Head) => &[0, 3],
@@ -95,7 +98,7 @@ fn is_make(command: Command) -> bool
         Command::Do(Doing::Make) => true,
         Command::Do(Doing::Claims | Doing::Append) => false,
         Command::Id | Command::Audit | Command::Show | Command::Latest => false,
-        Command::Ask(_) | Command::LogId(_) => false,
+        Command::Ask(_) | Command::Message | Command::LogId(_) => false,
         Command::Prove(_) | Command::Verify(_) => false,
     }
 }
@@ -168,6 +171,19 @@ impl<'a> Parts<'a> {
         number_in(self.value("--limit")).unwrap_or(MAX_INPUT as u64)
     }
 
+    /// Of which schemes keys may be whose signatures are taken.
+    pub(crate) fn schemes(&self) -> Schemes
+        ensures { result ≡ schemes_in (parts_view self.now).given }
+    {
+        if self.has("--verified") {
+            Schemes::Any
+        } else if self.has("--toy") {
+            Schemes::WithToy
+        } else {
+            Schemes::Known
+        }
+    }
+
     /// Whether the words behind `audit` name one log, and no file of paths.
     pub(crate) fn is_one_log(&self) -> bool
         ensures { result ≡ is_one_log (parts_view self.now).places }
@@ -197,6 +213,7 @@ impl<'a> Parts<'a> {
         match command {
             Command::Audit => words_from(self.places.as_slice(), 2),
             Command::Id | Command::Show | Command::Latest | Command::LogId(_) => &[],
+            Command::Message => &[],
             Command::Ask(_) | Command::Do(_) | Command::Prove(_) | Command::Verify(_) => &[],
         }
     }

@@ -9,7 +9,7 @@ use crate::invocation::{invocation_of, named_by, word, words_from};
 use crate::log_commands::LOG_COMMANDS;
 use crate::parts::Parts;
 use crate::pleas::{asks_for_text, is_help, is_version};
-use crate::proof_commands::{LOG_ID_OF, PROVE, VERIFY};
+use crate::proof_commands::{LOG_ID_OF, MESSAGE, PROVE, VERIFY};
 use crate::request::Said;
 use crate::table::with_commands;
 use crate::version::VERSION;
@@ -45,12 +45,13 @@ fn program<'a>(alloc: Global) -> Result<Command<'a>, AllocError> {
         "Prints a registry's checkpoint, or a proof under it",
     );
     let verify = Command::new(alloc, "verify").about(
-        "Says whether a proof under a checkpoint holds",
+        "Says whether a checkpoint is signed, or a proof under it holds",
     );
-    program
+    let program = program
         .subcommand(with_commands(alloc, log_id, LOG_ID_OF)?)?
         .subcommand(with_commands(alloc, prove, PROVE)?)?
-        .subcommand(with_commands(alloc, verify, VERIFY)?)
+        .subcommand(with_commands(alloc, verify, VERIFY)?)?;
+    with_commands(alloc, program, MESSAGE)
 }
 
 // What clap says of words, and whether that is a fault; nothing where it takes them.

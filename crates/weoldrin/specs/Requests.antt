@@ -18,6 +18,7 @@ use Rattle.warg_claims.specs.Verified.Texts.{IsReadFrom}
 use Rattle.warg_audit.specs.Files.Files.{Files}
 use Rattle.tool_changes.specs.JsonLines.{IsInJson}
 use Rattle.tool_changes.specs.ManyAudits.{IsManyAnswer, IsOneAnswer}
+use Rattle.tool_checkpoints.specs.CheckpointAnswers.{IsCheckpointAnswer}
 use Rattle.tool_checkpoints.specs.LogIdTexts.{IsLogIdAnswer}
 use Rattle.tool_checkpoints.specs.ProofTexts.{IsProofAnswer}
 use Rattle.tool_checkpoints.specs.Proofs.{IsStatementVerdict}
@@ -93,6 +94,7 @@ IsRequestAnswer json belongs old new (request.Latest requirement path) printed =
 IsRequestAnswer json belongs old new (request.LogId log) printed = IsLogIdAnswer log printed
 IsRequestAnswer json belongs old new (request.Prove wanted path) printed = IsProofAnswer old wanted path.now printed
 IsRequestAnswer json belongs old new (request.Verify statement) printed = IsStatementVerdict old statement printed
+IsRequestAnswer json belongs old new (request.Checkpoint query) printed = IsCheckpointAnswer old belongs query printed
 IsRequestAnswer json belongs old new (request.Ask kind question) printed = IsAskedAnswer kind belongs old question printed
 IsRequestAnswer json belongs old new (request.Do kind task) printed = IsDoneAnswer kind belongs old new task printed
 
@@ -106,6 +108,7 @@ RequestLeaves belongs old new (request.Latest requirement path) = new ≡ old
 RequestLeaves belongs old new (request.LogId log) = new ≡ old
 RequestLeaves belongs old new (request.Prove wanted path) = new ≡ old
 RequestLeaves belongs old new (request.Verify statement) = new ≡ old
+RequestLeaves belongs old new (request.Checkpoint query) = new ≡ old
 RequestLeaves belongs old new (request.Ask kind question) = new ≡ old
 RequestLeaves belongs old new (request.Do kind task) = DoneLeaves kind belongs old new task
 
@@ -119,6 +122,7 @@ is_many (request.Latest requirement path) = false
 is_many (request.LogId log) = false
 is_many (request.Prove wanted path) = false
 is_many (request.Verify statement) = false
+is_many (request.Checkpoint query) = false
 is_many (request.Ask kind question) = false
 is_many (request.Do kind task) = false
 

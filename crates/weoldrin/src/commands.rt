@@ -17,7 +17,7 @@ use std::alloc::{AllocError, Global};
 use tool_changes::{
     Audit, audits_answer, id_answer, json_answer, latest_answer, requirement_of, task_answer,
 };
-use tool_checkpoints::{log_id_answer, prove_answer, verify_answer};
+use tool_checkpoints::{checkpoint_answer, log_id_answer, prove_answer, verify_answer};
 use tool_layout::Look;
 use tool_questions::question_answer;
 use tool_questions::show::show_of_file;
@@ -192,6 +192,7 @@ fn request_answer<V: Verifier, S: Store>(
         Request::LogId { log } => log_id_answer(alloc, log),
         Request::Prove { wanted, leaves } => prove_answer(alloc, wanted, leaves, store),
         Request::Verify { statement } => verify_answer(alloc, statement, store),
+        Request::Checkpoint { query } => checkpoint_answer(alloc, verifier, query, store),
         Request::Ask { kind, question } => asked_answer(alloc, verifier, *kind, question, store),
         Request::Do { kind, task } => done_answer(alloc, verifier, *kind, task, store),
     }
@@ -245,6 +246,7 @@ fn is_many(request: &Request<'_>) -> bool
         | Request::LogId { .. }
         | Request::Prove { .. }
         | Request::Verify { .. }
+        | Request::Checkpoint { .. }
         | Request::Ask { .. }
         | Request::Do { .. } => false,
     }

@@ -14,8 +14,8 @@ pub use names::invocation_answer;
 pub use schemes::KnownSchemes;
 pub use tool_layout::{Look, NameFault, Names, NamesParseError};
 pub use tool_words::{
-    Demands, Invocation, LeafIds, LogQuery, NamedLog, NewRecord, Request, Signer, Statement, Task,
-    Wanted,
+    CheckpointQuery, Demands, Invocation, LeafIds, LogQuery, NamedLog, NewRecord, Request, Schemes,
+    Signer, Statement, Task, Wanted,
 };
 pub use warg_audit::LogKind;
 pub use warg_audit::files::change::{HoldError, UnwrittenError, WriteError};

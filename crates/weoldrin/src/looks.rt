@@ -48,6 +48,7 @@ fn layout(
         | Request::LogId { .. }
         | Request::Prove { .. }
         | Request::Verify { .. }
+        | Request::Checkpoint { .. }
         | Request::Do { .. } => Ok(text),
     }
 }

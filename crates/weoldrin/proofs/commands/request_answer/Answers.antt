@@ -49,6 +49,12 @@ returns-in-Verify-clause-answered g c = rw c.in-Verify.is c.verify_answer.ensure
 pub returns-in-Verify-clause-files : goal.returns-in-Verify-clause-files
 returns-in-Verify-clause-files g c = rw c.in-Verify.is c.verify_answer.ensures.kept
 
+pub returns-in-Checkpoint-clause-answered : goal.returns-in-Checkpoint-clause-answered
+returns-in-Checkpoint-clause-answered g c = rw c.in-Checkpoint.is c.checkpoint_answer.ensures.answered
+
+pub returns-in-Checkpoint-clause-files : goal.returns-in-Checkpoint-clause-files
+returns-in-Checkpoint-clause-files g c = rw c.in-Checkpoint.is c.checkpoint_answer.ensures.kept
+
 pub returns-in-Ask-clause-answered : goal.returns-in-Ask-clause-answered
 returns-in-Ask-clause-answered g c = rw c.in-Ask.is c.asked_answer.ensures.answered
 
