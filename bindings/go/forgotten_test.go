@@ -12,10 +12,12 @@ import (
 func TestForgottenLogs(t *testing.T) {
 	const count = 100
 	made := map[string]func() (*Log, error){
-		"NewPackageLog":       func() (*Log, error) { it, err := NewPackageLog(); return &it.Log, err },
-		"NewOperatorLog":      func() (*Log, error) { it, err := NewOperatorLog(); return &it.Log, err },
-		"PackageLogFromJSON":  func() (*Log, error) { it, err := PackageLogFromJSON("{}"); return &it.Log, err },
-		"OperatorLogFromJSON": func() (*Log, error) { it, err := OperatorLogFromJSON("{}"); return &it.Log, err },
+		"NewPackageLog":              func() (*Log, error) { it, err := NewPackageLog(); return &it.Log, err },
+		"NewOperatorLog":             func() (*Log, error) { it, err := NewOperatorLog(); return &it.Log, err },
+		"PackageLogFromJSON":         func() (*Log, error) { it, err := PackageLogFromJSON("{}"); return &it.Log, err },
+		"PackageLogFromJSONCounted":  func() (*Log, error) { it, err := PackageLogFromJSONCounted("{}", 0); return &it.Log, err },
+		"OperatorLogFromJSONCounted": func() (*Log, error) { it, err := OperatorLogFromJSONCounted("{}", 0); return &it.Log, err },
+		"OperatorLogFromJSON":        func() (*Log, error) { it, err := OperatorLogFromJSON("{}"); return &it.Log, err },
 	}
 	for name, one := range made {
 		t.Run(name, func(t *testing.T) {

@@ -39,12 +39,16 @@ func (l *Log) open(kind Kind) error {
 	return err
 }
 
-// resume opens a log that goes on from a saved state.
-func (l *Log) resume(kind Kind, saved string) error {
+// resume opens a log that goes on from a saved state, and had so many records then; a negative count is not known.
+func (l *Log) resume(kind Kind, saved string, count int) error {
 	l.kind, l.number = kind, atomic.AddUint64(&logs, 1)
 	text := []byte(saved)
 	_, _, err := l.said(0, "", func(to []byte, used *rawSize) rawStatus {
-		return C.warg_resume(&l.raw, C.uint32_t(kind), at(text), size(text), at(to), size(to), used)
+		if count < 0 {
+			return C.warg_resume(&l.raw, C.uint32_t(kind), at(text), size(text), at(to), size(to), used)
+		}
+		return C.warg_resume_counted(
+			&l.raw, C.uint32_t(kind), at(text), size(text), rawSize(count), at(to), size(to), used)
 	})
 	return err
 }

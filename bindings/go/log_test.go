@@ -227,14 +227,26 @@ func TestSavedStates(t *testing.T) {
 	for name, call := range calls {
 		t.Run(name, func(t *testing.T) { isRefused(t, call(), weoldrin.ErrBadArgument, "Resumed") })
 	}
+	counted := must(weoldrin.PackageLogFromJSONCounted(must(log.ToJSON()), 3))
+	equal(t, must(counted.Last()).Count, 3)
 	more := release(log, bob, "9.0.0")
-	for _, it := range []*weoldrin.PackageLog{log, resumed} {
+	for _, it := range []*weoldrin.PackageLog{log, resumed, counted} {
 		if err := it.AppendSigned(more); err != nil {
+			t.Fatal(err)
+		}
+		if err := it.AppendSigned(more); !errors.Is(err, weoldrin.ErrRefused) {
 			t.Fatal(err)
 		}
 	}
 	equal(t, must(resumed.ToJSON()), must(log.ToJSON()))
-	_, err := weoldrin.PackageLogFromJSON("[]")
+	equal(t, must(counted.ToJSON()), must(log.ToJSON()))
+	equal(t, must(resumed.Last()).Count, -1)
+	equal(t, must(counted.Last()).Count, 4)
+	_, err := weoldrin.PackageLogFromJSONCounted("[]", 3)
+	equal(t, err.(*weoldrin.Error).Name, "WrongType")
+	operators := must(weoldrin.OperatorLogFromJSONCounted("{}", 7))
+	equal(t, must(operators.Last()), nil)
+	_, err = weoldrin.PackageLogFromJSON("[]")
 	equal(t, err.(*weoldrin.Error).Name, "WrongType")
 	_, err = weoldrin.OperatorLogFromJSON("{")
 	equal(t, err.(*weoldrin.Error).Name, "NotJson")

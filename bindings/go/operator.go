@@ -20,8 +20,13 @@ func NewOperatorLog() (*OperatorLog, error) {
 
 // OperatorLogFromJSON is a log that goes on from a saved state, as PackageLogFromJSON says it of a package's.
 func OperatorLogFromJSON(saved string) (*OperatorLog, error) {
+	return OperatorLogFromJSONCounted(saved, -1)
+}
+
+// OperatorLogFromJSONCounted is the same, as PackageLogFromJSONCounted says it.
+func OperatorLogFromJSONCounted(saved string, count int) (*OperatorLog, error) {
 	log := &OperatorLog{}
-	if err := log.resume(Operator, saved); err != nil {
+	if err := log.resume(Operator, saved, count); err != nil {
 		return nil, err
 	}
 	forgotten(log)

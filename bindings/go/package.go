@@ -31,8 +31,14 @@ func NewPackageLog() (*PackageLog, error) {
 // errors. The error is ErrBadArgument, with the fault's name, where the text is no saved state of a package's log.
 // Whether it is what was saved is the caller's to keep.
 func PackageLogFromJSON(saved string) (*PackageLog, error) {
+	return PackageLogFromJSONCounted(saved, -1)
+}
+
+// PackageLogFromJSONCounted is the same of a log that had so many records when its state was saved: Last goes on
+// counting from there. A negative count is not known.
+func PackageLogFromJSONCounted(saved string, count int) (*PackageLog, error) {
 	log := &PackageLog{}
-	if err := log.resume(Package, saved); err != nil {
+	if err := log.resume(Package, saved, count); err != nil {
 		return nil, err
 	}
 	forgotten(log)

@@ -100,7 +100,7 @@ type Last struct {
 	Timestamp time.Time
 	// Version is its version of the protocol.
 	Version uint32
-	// Count is how many records the log has, or -1 where it was resumed.
+	// Count is how many records the log has, or -1 where it was resumed and not told.
 	Count int
 }
 

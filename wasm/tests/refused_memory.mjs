@@ -268,16 +268,17 @@ for (const size of [0, 1, 5, 20]) {
   }
 }
 // One that goes on from a text is made by a promise: its requests are those of the call alone.
-for (const [Class, json] of [[PackageLog, saved[0]], [OperatorLog, saved[1]], [PackageLog, '{"head":1}']]) {
+const texts = [[PackageLog, saved[0]], [OperatorLog, saved[1]], [PackageLog, '{"head":1}']];
+for (const [Class, json, count] of [...texts, [PackageLog, saved[0], 4]]) {
   for (let number = 1; ; number++) {
     refuse(BigInt(number), 0n);
-    const error = await Class.fromJson(json, { library }).then((it) => it.close(), (it) => it);
-    const count = Number(refused());
+    const error = await Class.fromJson(json, { library, count }).then((it) => it.close(), (it) => it);
+    const requests = Number(refused());
     refuse(0n, 0n);
     if (error && !(error instanceof OutOfMemory) && json !== '{"head":1}') throw error;
-    if (error instanceof OutOfMemory) told.add("warg_resume");
-    if (!count) break;
-    tried += count;
+    if (error instanceof OutOfMemory) told.add(count === undefined ? "warg_resume" : "warg_resume_counted");
+    if (!requests) break;
+    tried += requests;
   }
 }
 console.log(`${tried} requests refused; ${told.size} calls say so: ${[...told].sort().join(", ")}`);

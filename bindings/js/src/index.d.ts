@@ -38,7 +38,7 @@ export interface Last {
   readonly timestamp: bigint;
   /** Its version of the protocol. */
   readonly version: number;
-  /** How many records the log has; null where it was resumed. */
+  /** How many records the log has; null where it was resumed and not told. */
   readonly count: number | null;
 }
 
@@ -126,6 +126,12 @@ export type Source = string | URL | Response | BufferSource | WebAssembly.Module
 /** A library that serves in place of the one that is shared. */
 export interface OfLibrary {
   library?: Library | undefined;
+}
+
+/** What is said of a saved state beside its text. */
+export interface OfSaved extends OfLibrary {
+  /** How many records the log had when it was saved. */
+  readonly count?: number | bigint;
 }
 
 /**
@@ -218,8 +224,8 @@ export class PackageLog extends Log {
   constructor(library: Library);
   static readonly KIND: "package";
   static open(options?: OfLibrary): Promise<PackageLog>;
-  /** A log that goes on from a saved state. It has no records. */
-  static fromJson(saved: string, options?: OfLibrary): Promise<PackageLog>;
+  /** A log that goes on from a saved state. It has no records. `last` goes on counting from `count`, where it is told. */
+  static fromJson(saved: string, options?: OfSaved): Promise<PackageLog>;
   latest(requirement: string): Release | null;
   release(version: string): Release | null;
   releases(): IterableIterator<Release>;
@@ -230,8 +236,8 @@ export class OperatorLog extends Log {
   constructor(library: Library);
   static readonly KIND: "operator";
   static open(options?: OfLibrary): Promise<OperatorLog>;
-  /** A log that goes on from a saved state. It has no records. */
-  static fromJson(saved: string, options?: OfLibrary): Promise<OperatorLog>;
+  /** A log that goes on from a saved state. It has no records. `last` goes on counting from `count`, where it is told. */
+  static fromJson(saved: string, options?: OfSaved): Promise<OperatorLog>;
   namespaceState(name: string): Namespace | null;
   /**
    * Whether a checkpoint is signed by a key that the log lets sign: one that holds "commit". Throws `UnknownAlgorithm`

@@ -5,7 +5,7 @@
 import { bytesOf, textIn, textOf, utf8Of } from "./bytes.js";
 import { BadArgument } from "./errors.js";
 import { Held } from "./held.js";
-import { BAD_ARGUMENT, GREATEST, TOO_SMALL, wordsOf } from "./library.js";
+import { BAD_ARGUMENT, GREATEST, TOO_SMALL, number, wordsOf } from "./library.js";
 import { Parts } from "./memory.js";
 import { KINDS, Kind, RELATIONS, Relation, kindOf } from "./values.js";
 
@@ -79,13 +79,16 @@ export class Log extends Held {
 
   /**
    * A log that goes on from a saved state. It has no records: `length`, `record`, `chain` and `compare` throw
-   * `BadArgument`. Throws `BadArgument`, with the fault's name, where the text is no saved state of this kind.
+   * `BadArgument`. Where the number of its records was kept beside the state, hand it in as `count`: `last` goes on
+   * counting from it. Throws `BadArgument`, with the fault's name, where the text is no saved state of this kind, or no
+   * log has that number.
    */
-  static async fromJson(saved, { library } = {}) {
+  static async fromJson(saved, { library, count } = {}) {
     const text = utf8Of(saved);
+    const [name, counted] = count === undefined ? ["resume", []] : ["resume_counted", [number(count)]];
     const log = await this.open({ library });
     try {
-      log.#said("resume", [KINDS.indexOf(log.kind), text]);
+      log.#said(name, [KINDS.indexOf(log.kind), text, ...counted]);
     } catch (error) {
       log.close();
       throw error;

@@ -175,6 +175,18 @@ test("a log goes on from its saved state", async () => {
   const log = await packageLog(3);
   const resumed = await PackageLog.fromJson(log.toJson());
   assert.deepEqual(resumed.last(), { ...log.last(), count: null });
+  const counted = await PackageLog.fromJson(log.toJson(), { count: 3 });
+  assert.deepEqual(counted.last(), log.last());
+  await assert.rejects(() => counted.append(made[0]), Refused);
+  assert.equal(counted.last().count, 3);
+  await counted.append(made[3]);
+  assert.equal(counted.last().count, 4);
+  assert.throws(() => counted.length, BadArgument);
+  counted.close();
+  const greatest = await PackageLog.fromJson(log.toJson(), { count: 2n ** 64n - 1n });
+  await greatest.append(made[3]);
+  assert.equal(greatest.last().count, null);
+  greatest.close();
   assert.equal(resumed.toJson(), log.toJson());
   await resumed.append(made[3]);
   await log.append(made[3]);
@@ -205,6 +217,12 @@ test("a log goes on from its saved state", async () => {
     );
   }
   await assert.rejects(() => PackageLog.fromJson(7), TypeError);
+  for (const count of [-1, 1.5, "3", 2n ** 64n]) {
+    await assert.rejects(
+      () => PackageLog.fromJson(log.toJson(), { count }),
+      (error) => error instanceof BadArgument && error.name === "OutOfRange",
+    );
+  }
   log.close();
   resumed.close();
 });

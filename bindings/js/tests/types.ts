@@ -54,6 +54,7 @@ export async function program(envelope: Uint8Array, buffer: ArrayBuffer, file: F
   const comparison: Comparison = log.compare(new PackageLog(library));
   if (comparison.relation === Relation.FORK) printable(String(comparison.left));
   const operators: OperatorLog = await OperatorLog.fromJson("{}");
+  await OperatorLog.fromJson("{}", { count: 0 });
   const from: string | null | undefined = operators.namespaceState("own")?.importedFrom;
   const other: Log = await logOf(kindOf("package"));
   const exact: PackageLog = await logOf("package");

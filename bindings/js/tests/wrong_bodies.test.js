@@ -330,6 +330,20 @@ const WRONG = {
     "checkpoints",
     "other texts",
   ],
+  "the number of a resumed log's records is forgotten": [
+    "logs.js",
+    'count === undefined ? ["resume", []]',
+    'true ? ["resume", []]',
+    "logs",
+    "saved state",
+  ],
+  "any number counts the records of a resumed log": [
+    "logs.js",
+    '["resume_counted", [number(count)]]',
+    '["resume_counted", [BigInt.asUintN(64, BigInt(Math.trunc(Number(count))))]]',
+    "logs",
+    "saved state",
+  ],
   ...WRONG_TREES,
 };
 

@@ -60,6 +60,31 @@ class Packages(unittest.TestCase):
         with self.assertRaises(NotOpen):
             resumed.last()
 
+    def test_counts_of_resumed_logs(self) -> None:
+        """A log whose length was kept beside its state goes on counting, as far as 64 bits can say."""
+        with PackageLog() as shorter:
+            for envelope in self.envelopes[:3]:
+                shorter.append(envelope)
+            saved = shorter.to_json()
+        with PackageLog.from_json(saved, 3) as resumed:
+            self.assertEqual(resumed.last(), Last(published.START, 1, 3))
+            with self.assertRaises(Refused):
+                resumed.append(self.envelopes[0])
+            self.assertEqual(resumed.last(), Last(published.START, 1, 3))
+            resumed.append(self.envelopes[3])
+            self.assertEqual(resumed.last(), Last(published.START, 1, 4))
+            with self.assertRaisesRegex(BadArgument, "Resumed"):
+                len(resumed)
+        with PackageLog.from_json(saved, 2**64 - 1) as resumed:
+            self.assertEqual(resumed.last(), Last(published.START, 1, 2**64 - 1))
+            resumed.append(self.envelopes[3])
+            self.assertEqual(resumed.last(), Last(published.START, 1, None))
+        for length in (-1, 2**64):
+            with self.assertRaisesRegex(BadArgument, "OutOfRange"):
+                PackageLog.from_json(saved, length)
+        with self.assertRaisesRegex(BadArgument, "NotJson"):
+            PackageLog.from_json("{", 3)
+
     def test_times(self) -> None:
         for timestamp in (-(2**63) * 10**9, -1, 0, 1, 1_000_000_001, 2**63 * 10**9 - 1):
             with PackageLog() as log:

@@ -110,7 +110,13 @@ class Bytes(unittest.TestCase):
         for call in calls:
             for wrong in others("text", None, [1, 2], 7):
                 self.assertRaisesRegex(TypeError, "bytes are wanted, not", call, wrong)
-        for call in [log.latest, log.public_key, PackageLog.from_json, lambda it: log.holds("x", it)]:
+        readers: list[Callable[[Any], object]] = [
+            log.latest,
+            log.public_key,
+            PackageLog.from_json,
+            lambda it: log.holds("x", it),
+        ]
+        for call in readers:
             for wrong in others(b"*", None, 7):
                 self.assertRaisesRegex(TypeError, "a text is wanted, not", call, wrong)
 

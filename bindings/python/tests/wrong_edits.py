@@ -22,6 +22,7 @@ PATIENCE = 120
 
 DEFINED, REFUSED, SAVED = (f"test_registry_trees.{it}" for it in ("AsDefined", "Refused", "Saved"))
 COMPARED = "test_comparisons"
+COUNTED = "test_logs.Packages.test_counts_of_resumed_logs"
 THREADS, FORGOTTEN = "test_registry_threads.Threads", "test_registry_threads.Forgotten"
 SIGNALS, FORKS, ENDS = (f"test_registry_interrupted.{it}" for it in ("Signals", "Forks", "Ends"))
 CLIENT, MONITOR = "test_registry_client", "test_registry_monitor"
@@ -140,6 +141,15 @@ WRONG: dict[str, Wrong] = {
         "_own_thread.py", "if sys.is_finalizing():", "if False:", f"{ENDS}.test_after_the_last"),
     "what is closed too late waits for ever": (
         "_own_thread.py", " and not sys.is_finalizing():", ":", f"{ENDS}.test_after_the_last"),
+    # Logs that are resumed
+    "the length of a resumed log is forgotten": (
+        "logs.py", "        if length is None:\n", "        if True:\n", COUNTED),
+    "a resumed log of no told length counts": (
+        "logs.py", "        if length is None:\n", "        if False:\n", COUNTED),
+    "any number is a length": (
+        "logs.py", "_library.number(length)", "length", COUNTED),
+    "a count that is not known is told": (
+        "logs.py", "head.count if head.is_counted else None", "head.count", COUNTED),
     # Leaves that are saved, and comparisons
     "the ids of a saved leaf are swapped": (
         "trees.py", "for text in (log_id, record_id):", "for text in (record_id, log_id):",

@@ -35,7 +35,7 @@ pub struct Last {
     pub timestamp: SystemTime,
     /// Its version of the protocol.
     pub version: u32,
-    /// How many records the log has; none where it was resumed.
+    /// How many records the log has; none where it was resumed by [`Log::from_json`].
     pub count: Option<usize>,
 }
 
@@ -287,6 +287,18 @@ impl<K: LogKind> Log<K> {
             let room = text.len();
             let to = text.as_mut_ptr();
             raw::warg_resume(raw, K::NUMBER, saved.as_ptr(), saved.len(), to, room, used)
+        })?;
+        Ok(log)
+    }
+
+    /// As [`Log::from_json`], of a log that had so many records when its state was saved: [`Log::last`] goes on counting from there.
+    pub fn from_json_counted(saved: &str, count: usize) -> Result<Self, Error> {
+        let log = Self::new()?;
+        // SAFETY: no other call has the log, and each pointer goes with the length of its slice (`raw`).
+        log.said(0, |raw, text, used| unsafe {
+            let room = text.len();
+            let to = text.as_mut_ptr();
+            raw::warg_resume_counted(raw, K::NUMBER, saved.as_ptr(), saved.len(), count, to, room, used)
         })?;
         Ok(log)
     }

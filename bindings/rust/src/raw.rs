@@ -249,6 +249,16 @@ extern "C" {
         text_len: usize,
         used: *mut usize,
     ) -> u32;
+    pub(crate) fn warg_resume_counted(
+        log: *mut Log,
+        kind: u32,
+        saved: *const u8,
+        saved_len: usize,
+        count: usize,
+        text: *mut u8,
+        text_len: usize,
+        used: *mut usize,
+    ) -> u32;
     pub(crate) fn warg_log_id(
         kind: u32,
         name: *const u8,

@@ -124,6 +124,11 @@ fn is_bad<T: std::fmt::Debug>(answer: Result<T, Error>, name: &str) {
     }
 }
 
+// How many records the logs say that they have.
+fn counts(logs: &[&PackageLog]) -> Result<Vec<Option<usize>>, Error> {
+    logs.iter().map(|it| Ok(it.last()?.and_then(|last| last.count))).collect()
+}
+
 #[test]
 fn saved_states() -> Tested {
     let (alice, bob) = (key(), key());
@@ -136,10 +141,19 @@ fn saved_states() -> Tested {
     is_bad(resumed.compare(&log), "Resumed");
     is_bad(log.compare(&resumed), "Resumed");
     is_bad(resumed.compare(&resumed), "Resumed");
+    let mut counted = PackageLog::from_json_counted(&log.to_json()?, 3)?;
+    let mut greatest = PackageLog::from_json_counted(&log.to_json()?, usize::MAX)?;
+    assert_eq!(counts(&[&log, &resumed, &counted, &greatest])?, [Some(3), None, Some(3), Some(usize::MAX)]);
     let more = signed(&next(&log, entries(3, &alice, &bob)), &bob, &bob);
     log.append_signed(&more)?;
-    resumed.append_signed(&more)?;
-    assert_eq!(resumed.to_json()?, log.to_json()?);
+    for it in [&mut resumed, &mut counted, &mut greatest] {
+        it.append_signed(&more)?;
+        assert!(matches!(it.append_signed(&more), Err(Error::Refused(_))));
+        assert_eq!(it.to_json()?, log.to_json()?);
+    }
+    assert_eq!(counts(&[&log, &resumed, &counted, &greatest])?, [Some(4), None, Some(4), None]);
+    is_bad(counted.len(), "Resumed");
+    assert_eq!(name(PackageLog::from_json_counted("[]", 3)), "WrongType");
     assert_eq!(name(PackageLog::from_json("[]")), "WrongType");
     assert_eq!(name(OperatorLog::from_json("{")), "NotJson");
     Ok(())

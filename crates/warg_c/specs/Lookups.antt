@@ -18,7 +18,7 @@ use Rattle.warg_c.specs.declared.exports.records.KeptLengths.{KeptLengths}
 use Rattle.warg_c.specs.declared.exports.records.ShownHead.{ShownHead}
 use Rattle.warg_c.specs.declared.any_log.AnyLog.{AnyLog}
 use Rattle.warg_c.specs.declared.any_log.AnyLog.TheVariants.{Package, Operator}
-use Rattle.warg_c.specs.Logs.{state_of, whole_of}
+use Rattle.warg_c.specs.Logs.{count_in, state_of, whole_of}
 
 -- the text of an id
 abbrev pub IdText : Option RecordId → List ℕ → Type 0
@@ -55,14 +55,10 @@ module _ {View Offence : Type 0} (k : Kind View Offence) where
     IsRecordAt None place n bytes = ⊥
     IsRecordAt (Some log) place n bytes = (e : DecodedEnvelope C) × (slice_get log.records place ≡ Some e) × IsRecord e.envelope n bytes
 
-module _ {S C : Type 0} where
-  -- how many records there are, where they are here
-  abbrev pub count_in : Option (StateAndRecords S C) → Option ℕ
-  count_in log = option_map (λ l. length l.records) log
-
+-- how many records there are, where that is known
 abbrev pub count_of : AnyLog → Option ℕ
-count_of (Package log) = count_in (whole_of log)
-count_of (Operator log) = count_in (whole_of log)
+count_of (Package log) = count_in log
+count_of (Operator log) = count_in log
 
 -- the last record: its id, its time, its version
 abbrev pub last_of : AnyLog → Option Head

@@ -1,5 +1,5 @@
 -- Saved states.
-use Rattle.std.specs.Prelude.{◌≡◌, ◌⊎◌, ℕ, List, Result, Ok, Err, codes}
+use Rattle.std.specs.Prelude.{◌≡◌, ◌⊎◌, ℕ, List, Option, Result, Ok, Err, codes}
 use Rattle.std.specs.Str.{IsUtf8}
 use Rattle.warg_crypto.specs.Json.Json.{AreReadBack}
 use Rattle.warg_crypto.specs.declared.json.error.JsonError.{JsonError}
@@ -45,15 +45,15 @@ abbrev pub reads_back : AnyLog → List ℕ → Type 0
 reads_back (Package log) text = AreReadBack (packages_back.saved_versions (state_of log)) → TextReadsBack packages.state_in packages_back.AreEqual (state_of log) text
 reads_back (Operator log) text = TextReadsBack operators.state_in operators_back.AreEqual (state_of log) text
 
--- the log goes on from the state that the text says
-abbrev pub resume_gives : List ℕ → AnyLog → Type 0
-resume_gives text (Package (Whole log)) = ⊥
-resume_gives text (Package (Resumed s)) = in_text packages.state_in text ≡ Ok s
-resume_gives text (Operator (Whole log)) = ⊥
-resume_gives text (Operator (Resumed s)) = in_text operators.state_in text ≡ Ok s
+-- the log goes on from the state that the text says, and has so many records, where that is known
+abbrev pub resume_gives : List ℕ → Option ℕ → AnyLog → Type 0
+resume_gives text count (Package (Whole log)) = ⊥
+resume_gives text count (Package (Resumed s n)) = (in_text packages.state_in text ≡ Ok s) × (n ≡ count)
+resume_gives text count (Operator (Whole log)) = ⊥
+resume_gives text count (Operator (Resumed s n)) = (in_text operators.state_in text ≡ Ok s) × (n ≡ count)
 
-abbrev pub resume_gives_number : ℕ → List ℕ → AnyLog → Type 0
-resume_gives_number n text held = IsOfNumber n held × resume_gives text held
+abbrev pub resume_gives_number : ℕ → List ℕ → Option ℕ → AnyLog → Type 0
+resume_gives_number kind text count held = IsOfNumber kind held × resume_gives text count held
 
 -- the text says no state of the kind, by this fault
 abbrev pub SaysNoState : LogKind → List ℕ → JsonTextError → Type 0

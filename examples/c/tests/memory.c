@@ -96,6 +96,7 @@ static void live(bool is_resumed, const struct signer *alice, const struct signe
     /* In the place of an open log: one of no records, and one of another kind that goes on from nothing. */
     CHECK(warg_open(&log, WARG_OPERATOR) == WARG_OK);
     CHECK(warg_resume(&log, WARG_PACKAGE, saved, len, text, sizeof text, &used) == WARG_OK);
+    CHECK(warg_resume_counted(&log, WARG_PACKAGE, saved, len, 4, text, sizeof text, &used) == WARG_OK);
     CHECK(blocks > before);
     warg_close(&log);
     CHECK(blocks == before);

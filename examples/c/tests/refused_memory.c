@@ -111,6 +111,9 @@ static uint32_t compare(void) {
 static uint32_t save(void) { return warg_save(&package, text, sizeof text, &used); }
 static uint32_t save_operators(void) { return warg_save(&operators, text, sizeof text, &used); }
 static uint32_t resume(void) { return warg_resume(&fresh, WARG_PACKAGE, saved[0], saved_len[0], text, sizeof text, &used); }
+static uint32_t resume_counted(void) {
+    return warg_resume_counted(&fresh, WARG_PACKAGE, saved[0], saved_len[0], 4, text, sizeof text, &used);
+}
 static uint32_t resume_operators(void) {
     return warg_resume(&fresh, WARG_OPERATOR, saved[1], saved_len[1], text, sizeof text, &used);
 }
@@ -231,6 +234,7 @@ static const struct call changing[] = {
     {"append, of a first record", append_begin, {WARG_OK, WARG_OK}},
     {"resume", resume, {WARG_OK, WARG_OK}},
     {"resume, of operators", resume_operators, {WARG_OK, WARG_OK}},
+    {"resume, counted", resume_counted, {WARG_OK, WARG_OK}},
     {"open", open_again, {WARG_OK, WARG_OK}},
     {"open, of operators", open_operators, {WARG_OK, WARG_OK}},
     {"append", append_next, {WARG_OK, WARG_OK}},

@@ -122,7 +122,7 @@ class Handles:
         state = self._storage.state(log_id) or State(0, "{}")
         row = self._storage.log(log_id)
         try:
-            handle = Handle(class_of(kind).from_json(state.text), log_id, state)
+            handle = Handle(class_of(kind).from_json(state.text, state.length), log_id, state)
         except Error as error:
             raise Damaged(f"the saved state of {log_id} is none: {error}") from error
         self.go_on(handle, row)

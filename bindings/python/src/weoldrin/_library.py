@@ -158,6 +158,7 @@ _CALLS: dict[str, list[Any]] = {
     "compare": [_LOG, _LOG, ctypes.POINTER(Comparison)],
     "save": [_LOG, *_OUT],
     "resume": [_LOG, _U32, *_IN, *_OUT],
+    "resume_counted": [_LOG, _U32, *_IN, _SIZE, *_OUT],
     "log_id": [_U32, *_IN, *_OUT],
     "leaf": [*_IN, *_IN, *_OUT],
     "verify_inclusion": [*_IN, *_IN, _U64, _U64, *_IN, *_IN],

@@ -233,14 +233,19 @@ class Log:
         return text
 
     @classmethod
-    def from_json(cls: type[L], saved: str) -> L:
+    def from_json(cls: type[L], saved: str, length: int | None = None) -> L:
         """A log that goes on from a saved state. It has no records: `len`, `record`, `chain` and `compare` raise
-        `BadArgument`.
+        `BadArgument`. Where the number of its records was kept beside the state, hand it in as `length`: `last` goes on
+        counting from it.
 
-        Raises `BadArgument`, with the fault's name, where the text is no saved state of this kind.
+        Raises `BadArgument`, with the fault's name, where the text is no saved state of this kind, or no log has that
+        length.
         """
         log, text = cls(), text_bytes(saved)
-        log._said("resume", cls.KIND.value, text, len(text))
+        if length is None:
+            log._said("resume", cls.KIND.value, text, len(text))
+        else:
+            log._said("resume_counted", cls.KIND.value, text, len(text), _library.number(length))
         return log
 
     # Calls of the library: one at a time

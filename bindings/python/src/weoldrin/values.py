@@ -37,7 +37,7 @@ class Last(NamedTuple):
     version: int
     """Its version of the protocol."""
     length: int | None
-    """How many records the log has; none where it was resumed."""
+    """How many records the log has; none where it was resumed and not told."""
 
 
 class Release(NamedTuple):

@@ -3,7 +3,7 @@ ghost use Rattle.std.specs.Prelude.{◌≡◌, ◌≢◌, ◌≤◌, ◌⊎◌, 
 ghost use Rattle.std.specs.Prelude.{length, take, drop};
 ghost use Rattle.std.specs.Option.{option_copied};
 ghost use Rattle.warg_c.specs.Lookups.{IdText, LengthIs, IsBeyond, IsRecord, IsRecordAt, head_of, length_tells};
-ghost use Rattle.warg_c.specs.Lookups.{ShowsLast, count_in, count_of, last_of, shown_last};
+ghost use Rattle.warg_c.specs.Lookups.{ShowsLast, count_of, last_of, shown_last};
 ghost use Rattle.warg_c.specs.Lookups.{has_no_records, record_takes, record_tells, record_lacks};
 ghost use Rattle.warg_c.specs.Logs.{whole_of};
 ghost use Rattle.warg_c.specs.Statuses.{WARG_OK, WARG_NOT_OPEN, WARG_OUT_OF_MEMORY, WARG_TOO_SMALL, WARG_NONE};
@@ -37,11 +37,11 @@ pub struct KeptLengths {
 #[derive(Clone, Copy)]
 pub struct ShownHead {
     pub seconds: i64,
-    /// 0 where the log was resumed.
+    /// 0 where it is not known.
     pub count: usize,
     pub nanos: u32,
     pub version: u32,
-    /// 1 if `count` says how many records there are, 0 where the log was resumed.
+    /// 1 if `count` says how many records there are, 0 where that is not known: `warg_resume` was not told it.
     pub is_counted: u32,
 }
 
@@ -110,24 +110,14 @@ pub extern "C" fn warg_head(
     finish(outcome, text, used)
 }
 
-// How many records the log has, where they are here.
-fn count_in<L: Validator>(log: &LogOrState<L>) -> Option<usize>
-    ensures { result ≡ count_in (whole_of log.now) }
-{
-    match log.whole() {
-        Some(log) => Some(log.len()),
-        None => None,
-    }
-}
-
 // The last record, and how many there are.
 fn last_of(held: &AnyLog) -> (&Option<Head>, Option<usize>)
     ensures last { result.0.now ≡ last_of held.now }
     ensures count { result.1 ≡ count_of held.now }
 {
     match held {
-        AnyLog::Package(log) => (log.state().head(), count_in(log)),
-        AnyLog::Operator(log) => (log.state().head(), count_in(log)),
+        AnyLog::Package(log) => (log.state().head(), log.count()),
+        AnyLog::Operator(log) => (log.state().head(), log.count()),
     }
 }
 

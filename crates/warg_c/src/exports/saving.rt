@@ -1,5 +1,5 @@
 //! Saving a state, and going on from one.
-ghost use Rattle.std.specs.Prelude.{◌≡◌, ◌≢◌, ◌≤◌, ◌⊎◌, ◌↔◌, [], ◌∷◌, None, Err, IfOk, IfErr, IsOk, IsSomeAnd};
+ghost use Rattle.std.specs.Prelude.{◌≡◌, ◌≢◌, ◌≤◌, ◌⊎◌, ◌↔◌, [], ◌∷◌, None, Some, Err, IfOk, IfErr, IsOk, IsSomeAnd};
 ghost use Rattle.std.specs.Prelude.{length, take, drop};
 ghost use Rattle.std.specs.Str.{IsUtf8};
 ghost use Rattle.warg_crypto.specs.Json.Json.{AreReadBack};
@@ -128,19 +128,24 @@ fn refuse_saved(error: JsonTextError, text: &mut [u8], used: &mut usize) -> Call
     CallError::BadArgument
 }
 
-// The log of a state's text.
-fn read_saved(alloc: Global, kind: LogKind, saved: &str) -> Result<AnyLog, JsonTextError>
-    ensures ok { IfOk result (λ held. IsOfKind kind held × resume_gives saved.now held) }
+// The log of a state's text, which has so many records, where that is known.
+fn read_saved(
+    alloc: Global,
+    kind: LogKind,
+    saved: &str,
+    count: Option<usize>,
+) -> Result<AnyLog, JsonTextError>
+    ensures ok { IfOk result (λ held. IsOfKind kind held × resume_gives saved.now count held) }
     ensures err { IfErr result (λ e. (e ≡ json.OutOfMemory) ⊎ SaysNoState kind saved.now e) }
 {
     match kind {
         LogKind::Package => {
             let state = PackageState::from_json(alloc, saved)?;
-            Ok(AnyLog::Package(LogOrState::Resumed(state)))
+            Ok(AnyLog::Package(LogOrState::Resumed { state, count }))
         }
         LogKind::Operator => {
             let state = OperatorState::from_json(alloc, saved)?;
-            Ok(AnyLog::Operator(LogOrState::Resumed(state)))
+            Ok(AnyLog::Operator(LogOrState::Resumed { state, count }))
         }
     }
 }
@@ -149,10 +154,11 @@ fn resumed(
     alloc: Global,
     kind: u32,
     saved: &[u8],
+    count: Option<usize>,
     text: &mut [u8],
     used: &mut usize,
 ) -> Result<Box<AnyLog>, CallError>
-    ensures ok { IfOk result (λ b. resume_gives_number kind saved.now b.value) }
+    ensures ok { IfOk result (λ b. resume_gives_number kind saved.now count b.value) }
     ensures err { IfErr result (ErrorsAs (IsOk (kind_numbered kind)) ⊥
         (is_no_saved kind saved.now used.new text.new)) }
     ensures behind { drop used.new text.new ≡ drop used.new text.old }
@@ -167,12 +173,42 @@ fn resumed(
     let Ok(saved) = str::from_utf8(saved) else {
         return Err(refuse_saved(JsonTextError::NotJson, text, used));
     };
-    match read_saved(alloc, kind, saved) {
+    match read_saved(alloc, kind, saved, count) {
         Ok(held) => match held.boxed(alloc) {
             Ok(held) => Ok(held),
             Err(_) => Err(CallError::OutOfMemory),
         },
         Err(error) => Err(refuse_saved(error, text, used)),
+    }
+}
+
+// What the handle holds after it goes on from a saved state.
+fn resume(
+    alloc: Global,
+    log: &mut WargLog,
+    kind: u32,
+    saved: &[u8],
+    count: Option<usize>,
+    text: &mut [u8],
+    used: &mut usize,
+) -> u32
+    ensures statuses { IsOneOf (WARG_OK ∷ WARG_OUT_OF_MEMORY ∷ WARG_BAD_ARGUMENT ∷ []) result }
+    ensures ok { result ≡ WARG_OK →
+        IsSomeAnd log.new.owned.kept (resume_gives_number kind saved.now count) }
+    ensures out_of_memory { result ≡ WARG_OUT_OF_MEMORY → IsOk (kind_numbered kind) }
+    ensures bad_argument { result ≡ WARG_BAD_ARGUMENT →
+        is_no_saved kind saved.now used.new text.new }
+    ensures unchanged { result ≢ WARG_OK → log.new.owned.kept ≡ log.old.owned.kept }
+    ensures used { result ≢ WARG_BAD_ARGUMENT → used.new ≡ 0 }
+    ensures behind { drop used.new text.new ≡ drop used.new text.old }
+    ensures within { used.new ≤ length text.new }
+{
+    match resumed(alloc, kind, saved, count, text, used) {
+        Ok(held) => {
+            log.put(held);
+            status(Ok(()))
+        }
+        Err(call_error) => status(Err(call_error)),
     }
 }
 
@@ -192,7 +228,7 @@ pub extern "C" fn warg_resume(
 ) -> u32
     ensures statuses { IsOneOf (WARG_OK ∷ WARG_OUT_OF_MEMORY ∷ WARG_BAD_ARGUMENT ∷ []) result }
     ensures ok { result ≡ WARG_OK →
-        IsSomeAnd log.new.owned.kept (resume_gives_number kind saved.now) }
+        IsSomeAnd log.new.owned.kept (resume_gives_number kind saved.now None) }
     ensures out_of_memory { result ≡ WARG_OUT_OF_MEMORY → IsOk (kind_numbered kind) }
     ensures bad_argument { result ≡ WARG_BAD_ARGUMENT →
         is_no_saved kind saved.now used.new text.new }
@@ -201,11 +237,32 @@ pub extern "C" fn warg_resume(
     ensures behind { drop used.new text.new ≡ drop used.new text.old }
     ensures within { used.new ≤ length text.new }
 {
-    match resumed(alloc, kind, saved, text, used) {
-        Ok(held) => {
-            log.put(held);
-            status(Ok(()))
-        }
-        Err(call_error) => status(Err(call_error)),
-    }
+    resume(alloc, log, kind, saved, None, text, used)
+}
+
+/// The same of a log that had so many records when its state was saved, as `warg_head_of` then said: it says how many there are from here on,
+/// each record that is appended included. Whether the number is right is the caller's to keep, as the text is.
+///   WARG_BAD_ARGUMENT: as of `warg_resume`.
+#[unsafe(no_mangle)]
+pub extern "C" fn warg_resume_counted(
+    alloc: Global,
+    log: &mut WargLog,
+    kind: u32,
+    saved: &[u8],
+    count: usize,
+    text: &mut [u8],
+    used: &mut usize,
+) -> u32
+    ensures statuses { IsOneOf (WARG_OK ∷ WARG_OUT_OF_MEMORY ∷ WARG_BAD_ARGUMENT ∷ []) result }
+    ensures ok { result ≡ WARG_OK →
+        IsSomeAnd log.new.owned.kept (resume_gives_number kind saved.now (Some count)) }
+    ensures out_of_memory { result ≡ WARG_OUT_OF_MEMORY → IsOk (kind_numbered kind) }
+    ensures bad_argument { result ≡ WARG_BAD_ARGUMENT →
+        is_no_saved kind saved.now used.new text.new }
+    ensures unchanged { result ≢ WARG_OK → log.new.owned.kept ≡ log.old.owned.kept }
+    ensures used { result ≢ WARG_BAD_ARGUMENT → used.new ≡ 0 }
+    ensures behind { drop used.new text.new ≡ drop used.new text.old }
+    ensures within { used.new ≤ length text.new }
+{
+    resume(alloc, log, kind, saved, Some(count), text, used)
 }

@@ -7,7 +7,7 @@ use Rattle.warg_c.specs.Saved.{is_no_saved}
 use Rattle.warg_c.specs.Statuses.{WARG_BAD_ARGUMENT, code_of}
 use Rattle.warg_c.specs.Texts.{ErrorsAs}
 use Rattle.warg_c.proofs.Codes.{same-code}
-use Rattle.warg_c.proofs.exports.saving.warg_resume.Goals as goal
+use Rattle.warg_c.proofs.exports.saving.resume.Goals as goal
 
 not-memory : OutOfMemory ≡ BadArgument → ⊥
 not-memory is = cc
