@@ -158,11 +158,11 @@ struct warg_kept {
 /* The time of a log's last record, in seconds and nanoseconds since 1970, its version, and how many records the log has. */
 struct warg_head {
     int64_t seconds;
-    /* 0 where the log was resumed. */
+    /* 0 where it is not known. */
     size_t count;
     uint32_t nanos;
     uint32_t version;
-    /* 1 if `count` says how many records there are, 0 where the log was resumed. */
+    /* 1 if `count` says how many records there are, 0 where that is not known: `warg_resume` was not told it. */
     uint32_t is_counted;
 };
 
@@ -379,6 +379,12 @@ uint32_t warg_save(struct warg_log *log, uint8_t *text, size_t text_len, size_t 
  *     TimeBeforeEpoch, TimeOutOfRange, Incoherent). The log is as it was. */
 uint32_t warg_resume(struct warg_log *log, uint32_t kind, const uint8_t *saved, size_t saved_len, uint8_t *text, size_t text_len,
                      size_t *used);
+
+/* The same of a log that had so many records when its state was saved, as `warg_head_of` then said: it says how many there are from here on,
+ * each record that is appended included. Whether the number is right is the caller's to keep, as the text is.
+ *   WARG_BAD_ARGUMENT: as of `warg_resume`. */
+uint32_t warg_resume_counted(struct warg_log *log, uint32_t kind, const uint8_t *saved, size_t saved_len, size_t count,
+                             uint8_t *text, size_t text_len, size_t *used);
 
 /* The ids of logs by the names of their packages, and the leaves of a registry's log. */
 
