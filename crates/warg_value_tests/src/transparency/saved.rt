@@ -35,17 +35,19 @@ fn what_is_saved_is_read_back(rt: HostRuntime) -> Result<(), Fail> {
 
 #[test]
 fn a_front_of_the_leaves_is_a_registry_of_fewer(rt: HostRuntime) -> Result<(), Fail> {
-    let bytes = trees_of(rt.alloc(), 7)?.to_bytes(rt.alloc())?;
-    let read = RegistryTrees::from_bytes(rt.alloc(), &bytes.as_slice()[..320])?;
+    let mut bytes = trees_of(rt.alloc(), 7)?.to_bytes(rt.alloc())?;
+    bytes.truncate(320);
+    let read = RegistryTrees::from_bytes(rt.alloc(), bytes.as_slice())?;
     assert_eq!(rt; read.checkpoint(), trees_of(rt.alloc(), 5)?.checkpoint());
     Ok(())
 }
 
 #[test]
 fn half_a_leaf_is_none(rt: HostRuntime) -> Result<(), Fail> {
-    let bytes = trees_of(rt.alloc(), 2)?.to_bytes(rt.alloc())?;
     for length in [1, 32, 63, 65, 96, 127] {
-        let read = RegistryTrees::from_bytes(rt.alloc(), &bytes.as_slice()[..length]);
+        let mut bytes = trees_of(rt.alloc(), 2)?.to_bytes(rt.alloc())?;
+        bytes.truncate(length);
+        let read = RegistryTrees::from_bytes(rt.alloc(), bytes.as_slice());
         assert_eq!(rt; read.err(), Some(SavedLeavesError::BadLength));
     }
     Ok(())
