@@ -77,9 +77,9 @@ class Served:
             words = [*command, "--key", str(folder / "key.pem"), "--port", "0"]
             self._process = subprocess.Popen(words, stdout=subprocess.PIPE, stderr=lines)
         assert self._process.stdout
-        port = int(self._process.stdout.readline().decode().rpartition(":")[2])
+        self.port = int(self._process.stdout.readline().decode().rpartition(":")[2])
         self.seconds = time.perf_counter() - began
-        self._connection = http.client.HTTPConnection("127.0.0.1", port, timeout=600)
+        self._connection = http.client.HTTPConnection("127.0.0.1", self.port, timeout=600)
 
     def stop(self) -> None:
         """Ends it."""
@@ -91,6 +91,11 @@ class Served:
         """How many bytes it has in memory."""
         pages = pathlib.Path(f"/proc/{self._process.pid}/statm").read_text(encoding="ascii").split()[1]
         return int(pages) * os.sysconf("SC_PAGE_SIZE")
+
+    def processor(self) -> float:
+        """How many seconds of a processor it has taken."""
+        words = pathlib.Path(f"/proc/{self._process.pid}/stat").read_text(encoding="ascii").rpartition(")")[2].split()
+        return (int(words[11]) + int(words[12])) / os.sysconf("SC_CLK_TCK")
 
     def publish(self, name: str, envelope: bytes) -> float:
         """Publishes a record, and gives how long that took."""

@@ -1,13 +1,17 @@
 """How many records a second a registry takes, and how long each takes.
 
-    python3 benches/publishing.py [--seconds 8] [--releases 20000] [--folder FOLDER]
+    python3 benches/publishing.py [--seconds 8] [--releases 20000] [--folder FOLDER] [--postgres]
 
 with the packages installed. A registry is served by a process of its own, from a new file in FOLDER, whose disk counts.
 Publishers are processes with keys and packages of their own, which send what they have signed before. The last lines
-compare the first 200 releases of a package with the 200 behind so many.
+compare the first 200 releases of a package with the 200 behind so many, and are left out where that is 0.
+
+With --postgres another registry is measured beside it, in turns, whose logs are in a server of PostgreSQL. That one is
+begun in a folder of its own in FOLDER, as the tests begin theirs. Its user has to reach FOLDER.
 """
 
 import argparse
+import contextlib
 import http.client
 import multiprocessing
 import os
@@ -24,8 +28,14 @@ from weoldrin_registry.publishing import Publisher, log_name
 from weoldrin_registry.settings import Settings
 from weoldrin_registry.storage.sqlite import SqliteStorage
 
+sys.path.insert(0, str(pathlib.Path(__file__).resolve().parents[2]))
+
+from registry.tests import database
+
 START = 1_700_000_000
 COMPARED = 200
+# So many records a second are signed before, of all publishers. Those who have sent all of theirs end earlier.
+SIGNED = 300
 
 
 def chain(key: p256.SigningKey, prev: str | None, first: int, count: int) -> list[bytes]:
@@ -59,11 +69,11 @@ def send(port: int, name: str, envelopes: list[bytes], seconds: float) -> list[f
 
 
 class Registry:
-    """A registry that is served."""
+    """A registry that is served, of a file in a folder, or of the database of an address."""
 
-    def __init__(self, folder: pathlib.Path) -> None:
+    def __init__(self, folder: pathlib.Path, address: str = "") -> None:
         words = [sys.executable, "-m", "weoldrin_registry.command"]
-        key, file = str(folder / "key.pem"), str(folder / "logs.sqlite")
+        key, file = str(folder / "key.pem"), address or str(folder / "logs.sqlite")
         subprocess.run([*words, "new-key", key], check=True)
         subprocess.run([*words, "begin", file, "--key", key], check=True, stdout=subprocess.DEVNULL)
         with open(folder / "lines.txt", "wb") as lines:
@@ -84,16 +94,32 @@ def told(times: list[float]) -> str:
     return f"median {cuts[49] * 1000:.1f} ms, 99th percentile {cuts[98] * 1000:.1f} ms"
 
 
-def measure(port: int, publishers: int, seconds: float) -> None:
-    """Has so many publish at once."""
-    words = []
-    for it in range(publishers):
-        made = chain(p256.SigningKey.generate(), None, 0, int(300 * seconds))
-        words.append((port, f"bench:with-p{publishers}-x{it}", made, seconds))
-    with multiprocessing.Pool(publishers) as pool:
-        found = pool.starmap(send, words, 1)
-    times = [it for one in found for it in one]
-    print(f"{publishers} publishers: {len(times) / seconds:.0f} records a second, {told(times)}", flush=True)
+def measure(registries: dict[str, Registry], publishers: int, seconds: float) -> None:
+    """Has so many publish at once, to one registry after the other."""
+    count = 2 + int(SIGNED * seconds / publishers)
+    made = [chain(p256.SigningKey.generate(), None, 0, count) for _ in range(publishers)]
+    for name, it in registries.items():
+        words = [(it.port, f"bench:with-p{publishers}-x{at}", mine, seconds) for at, mine in enumerate(made)]
+        with multiprocessing.Pool(publishers) as pool:
+            found = pool.starmap(send, words, 1)
+        times = [it for one in found for it in one]
+        rate = sum(len(one) / sum(one) for one in found)
+        print(f"{name}, {publishers} publishers: {rate:.0f} records a second, {told(times)}", flush=True)
+
+
+def publish(folder: pathlib.Path, seconds: float, server: database.Server | None) -> None:
+    """Measures a registry of SQLite, and one of PostgreSQL beside it."""
+    with contextlib.ExitStack() as held:
+        registries = {"SQLite": Registry(folder)}
+        held.callback(registries["SQLite"].stop)
+        if server is not None:
+            held.callback(server.stop)
+            server.begin()
+            (folder / "second").mkdir()
+            registries["PostgreSQL"] = Registry(folder / "second", server.database())
+            held.callback(registries["PostgreSQL"].stop)
+        for publishers in (1, 4, 16):
+            measure(registries, publishers, seconds)
 
 
 def fill(folder: pathlib.Path, name: str, envelopes: list[bytes]) -> None:
@@ -140,17 +166,17 @@ def main() -> None:
     parser.add_argument("--seconds", type=float, default=8)
     parser.add_argument("--releases", type=int, default=20_000)
     parser.add_argument("--folder", type=pathlib.Path)
+    parser.add_argument("--postgres", action="store_true")
     words = parser.parse_args()
     print(f"load {os.getloadavg()[0]:.1f} on {os.cpu_count()} processors", flush=True)
+    if words.postgres:
+        database.check_installed()
     with tempfile.TemporaryDirectory(dir=words.folder) as name:
-        registry = Registry(pathlib.Path(name))
-        try:
-            for publishers in (1, 4, 16):
-                measure(registry.port, publishers, words.seconds)
-        finally:
-            registry.stop()
-    with tempfile.TemporaryDirectory(dir=words.folder) as name:
-        compare(pathlib.Path(name), words.releases)
+        server = database.Server(folder=words.folder) if words.postgres else None
+        publish(pathlib.Path(name), words.seconds, server)
+    if words.releases:
+        with tempfile.TemporaryDirectory(dir=words.folder) as name:
+            compare(pathlib.Path(name), words.releases)
     print(f"load {os.getloadavg()[0]:.1f}", flush=True)
 
 

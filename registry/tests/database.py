@@ -21,11 +21,12 @@ def check_installed() -> None:
 
 
 class Server:
-    """A server of PostgreSQL, in a folder of its own. It does not run as root, so that another user has to."""
+    """A server of PostgreSQL, in a folder of its own, which is made in another one if one is given. It does not run as
+    root, so that another user has to."""
 
-    def __init__(self, *options: str) -> None:
+    def __init__(self, *options: str, folder: pathlib.Path | None = None) -> None:
         self._options = options
-        self._folder = tempfile.TemporaryDirectory()
+        self._folder = tempfile.TemporaryDirectory(dir=folder)
         self._as_user = [] if os.getuid() else ["setpriv", "--reuid=postgres", "--regid=postgres", "--clear-groups"]
         if self._as_user:
             shutil.chown(self._folder.name, "postgres", "postgres")

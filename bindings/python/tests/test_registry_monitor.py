@@ -1,6 +1,7 @@
 """`weoldrin monitor` and `weoldrin gossip`: an honest registry is followed, and each lie is told once, by its name."""
 
 import contextlib
+import importlib.util
 import json
 import pathlib
 import sqlite3
@@ -8,11 +9,13 @@ import subprocess
 import sys
 import unittest
 from collections.abc import Callable
+from concurrent.futures import Executor, ThreadPoolExecutor
 from typing import Any
 from unittest import mock
 
 from weoldrin import RegistryTrees, records
 from weoldrin.registry import monitor as monitors
+from weoldrin.registry import replaying
 from weoldrin.registry.answers import Leaf
 from weoldrin.registry.answers import Registry as Asked
 from weoldrin.registry.database import Database
@@ -91,6 +94,14 @@ class MonitorTest(ClientTest):
             MonitorTest.begun = pathlib.Path(self.database).read_bytes()
         pathlib.Path(self.database).write_bytes(MonitorTest.begun)
 
+    def begin_many(self) -> None:
+        """Has the registry begin many logs, the last of which it does not serve."""
+        for place in range(205):
+            name = records.sha256_text(str(place).encode())
+            self.registry.begin(name)
+        self.registry.sign()
+        del self.registry.logs[name][:]
+
     def rows(self, question: str) -> list[tuple[Any, ...]]:
         """What the file has."""
         with contextlib.closing(sqlite3.connect(self.database)) as file:
@@ -125,11 +136,7 @@ class Honest(MonitorTest):
 
     def test_processes(self) -> None:
         """Many logs by several processes."""
-        for place in range(205):
-            name = records.sha256_text(str(place).encode())
-            self.registry.begin(name)
-        self.registry.sign()
-        del self.registry.logs[name][:]
+        self.begin_many()
         status, lines, said = self.monitor("--workers", "2")
         self.assertEqual((status, [it.get("name") for it in lines]), (1, ["missing record", None]), said)
         self.assertEqual((lines[1]["logs"], lines[1]["records"]), (208, 216))
@@ -373,6 +380,40 @@ class Long(MonitorTest):
         for _ in range(2):
             self.assertRaisesRegex(Unusable, "a leaf in it is spoiled", self.long.step)
             self.long.close()
+
+
+class Executors(MonitorTest):
+    """A monitor that is given who replays."""
+
+    def _check(self, executor: Executor, workers: int) -> None:
+        """All logs are replayed by an executor, which is not ended."""
+        self.begin_many()
+        replayer = Replayer(self.served.url, 60, workers, executor)
+        asked = Asked(self.served.url)
+        with contextlib.closing(Database(self.database)) as seen, contextlib.closing(replayer):
+            monitor = monitors.Monitor(seen, lambda: Follower(asked, seen.trust()), replayer, 1000)
+            with contextlib.closing(monitor):
+                self.assertEqual([it.name for it in monitor.step()], ["missing record"])
+            self.assertEqual(seen.counts(), (208, 216))
+        self.assertEqual(executor.submit(int, "7").result(), 7)
+
+    def test_threads(self) -> None:
+        """However few workers are said to be there, none of this monitor's own replay."""
+        for workers in (1, 2):
+            with ThreadPoolExecutor(2) as threads, mock.patch.object(threads, "map", side_effect=threads.map) as map_:
+                pathlib.Path(self.database).unlink(missing_ok=True)
+                self.served.registry = honest()
+                with mock.patch.object(replaying, "ProcessPoolExecutor", side_effect=AssertionError):
+                    self._check(threads, workers)
+                self.assertEqual([len(it.args[-1]) for it in map_.mock_calls], [2, 1] if workers == 1 else [3])
+
+    @unittest.skipUnless(importlib.util.find_spec("distributed"), "Dask is not installed")
+    def test_dask(self) -> None:
+        from distributed import Client, LocalCluster
+
+        two = {"n_workers": 2, "threads_per_worker": 1, "dashboard_address": None}
+        with LocalCluster(**two) as cluster, Client(cluster) as client:  # type: ignore[no-untyped-call]
+            self._check(client.get_executor(), 2)
 
 
 class Gossip(MonitorTest):

@@ -268,6 +268,17 @@ WRONG: dict[str, Wrong] = {
     "roots count that were not compared": (
         "registry/monitor.py", 'self._database.kept("roots") == _roots_of(newest)', "True",
         f"{MONITOR}.Lies.test_at_first"),
+    "an executor is passed over": (
+        "registry/replaying.py", "executor = self._processes() if self._executor is None else self._executor",
+        "executor = self._processes()", f"{MONITOR}.Executors.test_threads"),
+    "an executor has to have two workers": (
+        "registry/replaying.py", "self._executor is None and (len(batches) < 2 or self.workers < 2)",
+        "len(batches) < 2 or self.workers < 2", f"{MONITOR}.Executors.test_threads"),
+    "an executor is ended": (
+        "registry/replaying.py", "            self._pool.shutdown(cancel_futures=True)\n",
+        "            self._pool.shutdown(cancel_futures=True)\n"
+        "        if self._executor is not None:\n            self._executor.shutdown()\n",
+        f"{MONITOR}.Executors.test_threads"),
     "a leaf counts twice": (
         "registry/database.py", "        start = self.counted()\n        # Beside",
         "        start = 0\n        # Beside", f"{MONITOR}.Long.test_goes_on"),

@@ -5,7 +5,7 @@ import os
 import threading
 import time
 from collections.abc import Iterator, Sequence
-from concurrent.futures import ProcessPoolExecutor
+from concurrent.futures import Executor, ProcessPoolExecutor
 from typing import NamedTuple
 
 from ..errors import BadArgument
@@ -133,29 +133,34 @@ def _replay_at(url: str, seconds: float, batch: list[Behind]) -> "list[Replayed]
 
 
 class Replayer:
-    """Replays batches of logs, by processes where there are several."""
+    """Replays batches of logs: by an executor, whose workers have the package, or by processes where there are
+    several."""
 
-    def __init__(self, url: str, seconds: float, workers: int) -> None:
-        self._url, self._seconds, self.workers = url, seconds, workers
+    def __init__(self, url: str, seconds: float, workers: int, executor: Executor | None = None) -> None:
+        self._url, self._seconds, self.workers, self._executor = url, seconds, workers, executor
         self._pool: ProcessPoolExecutor | None = None
 
     def close(self) -> None:
-        """Ends the processes."""
+        """Ends the processes. An executor that was given is left to whoever made it."""
         if self._pool is not None:
             self._pool.shutdown(cancel_futures=True)
 
     def replay(self, batches: Sequence[list[Behind]]) -> Iterator[list[Replayed]]:
         """What became of each batch, in their order."""
-        if len(batches) < 2 or self.workers < 2:
+        if self._executor is None and (len(batches) < 2 or self.workers < 2):
             for it in batches:
                 yield replay(Registry(self._url, self._seconds), it)
             return
+        count = len(batches)
+        executor = self._processes() if self._executor is None else self._executor
+        for found in executor.map(_replay_at, [self._url] * count, [self._seconds] * count, batches):
+            if isinstance(found, Exception):
+                raise found
+            yield found
+
+    def _processes(self) -> ProcessPoolExecutor:
         if self._pool is None:
             # What is spawned has none of this process's files, its lock among them.
             spawn = multiprocessing.get_context("spawn")
             self._pool = ProcessPoolExecutor(self.workers, spawn, _end_with, (os.getpid(),))
-        count = len(batches)
-        for found in self._pool.map(_replay_at, [self._url] * count, [self._seconds] * count, batches):
-            if isinstance(found, Exception):
-                raise found
-            yield found
+        return self._pool
