@@ -1,15 +1,18 @@
 -- What an index keeps, and what it misses.
-use Rattle.std.specs.Prelude.{◌≡◌, ℕ, ◌%◌, ◌^◌, List, Some, IsSome}
+use Rattle.std.specs.Prelude.{◌≡◌, ℕ, List, Option, None, Some, IfNone, IsSome, IsTrue}
+use Rattle.std.specs.declared.alloc.Global.{Global}
+use Rattle.std.specs.declared.boxed.Box.{Box}
 use Rattle.std.proofs.Common.{inl, inr}
 use mathlib.Core.Path.{sym, ap, subst, ◌∙◌}
-use Rattle.std.specs.List.{Contains}
+use Rattle.std.specs.Option.{MatchOption}
 use Rattle.std.specs.Ordering.{nat_cmp}
 use Rattle.std.specs.declared.cmp.Ordering.{Ordering}
 use Rattle.std.specs.BTreeMap.{get}
 use Rattle.warg_maps.specs.declared.buckets.Slot.{Slot}
+use Rattle.warg_maps.specs.declared.index.Further.{Further}
 use Rattle.warg_maps.specs.declared.index.Index.{Index}
 use Rattle.warg_maps.specs.Buckets.{HasPlace, HasPlaceOr, IsFull, IsFreeAt, slot_at}
-use Rattle.warg_maps.specs.Index.{HasEntry, HasFar, HasPlaced, HasSecond}
+use Rattle.warg_maps.specs.Index.{HasEntry, HasFar, HasFurther, HasSecond}
 
 pub free-IsFull : (slots : List Slot) (h at : ℕ) → IsFreeAt slots h at → IsFull slots h → ⊥
 free-IsFull slots h at w full = full w.table w.lane w.in_bucket (ap (λ k. (slot_at slots k).place) (sym w.index) ∙ w.is_free)
@@ -21,8 +24,22 @@ place-kept slots slots' h i E E' place full on e = elim e [ inl p ↦ inl (place
 pub no-place : (slots : List Slot) (h i : ℕ) (E : Type 0) → (HasPlace slots h i → ⊥) → (IsFull slots h → E → ⊥) → HasPlaceOr slots h i E → ⊥
 no-place slots h i E near far e = elim e [ inl p ↦ near p | inr q ↦ far q.0 q.1 ]
 
+pub on-none : {T : Type 0} (o : Option T) {P Q : Type 0} → IfNone o P → (P → Q) → IfNone o Q
+on-none None p f = f p
+on-none (Some x) p f = tt
+
+pub when-none : {T : Type 0} {o : Option T} {P : Type 0} → o ≡ None → IfNone o P → P
+when-none {T} {o} {P} is p = subst (λ r. IfNone r P) is p
+
+-- what a boxed part has
+pub in-opened : {K : Type 0} (cmp : K → K → Ordering) (x : Index K) (b : Box (Further K) Global) → x.further ≡ Some b → (y : Further K) → y ≡ b.value → (f : ℕ) (k : K) (i : ℕ) →
+    MatchOption x.further ⊥ (λ c. HasSecond cmp c.value f k i) → HasSecond cmp y f k i
+in-opened {K} cmp x b is y same f k i there =
+    let here : HasSecond cmp b.value f k i = subst (λ (o : Option (Box (Further K) Global)). MatchOption o ⊥ (λ c. HasSecond cmp c.value f k i)) is there in
+    subst (λ z. HasSecond cmp z f k i) (sym same) here
+
 -- what an index knows is what its parts know
-module _ {K : Type 0} (cmp : K → K → Ordering) (x y : Index K) (f : ℕ) (k : K) (i : ℕ) where
+module _ {K : Type 0} (cmp : K → K → Ordering) (x y : Further K) (f : ℕ) (k : K) (i : ℕ) where
   pub far-as : x.far ≡ y.far → x.crowd ≡ y.crowd → HasFar cmp x f k i → HasFar cmp y f k i
   far-as far crowd e =
       record {
@@ -32,14 +49,16 @@ module _ {K : Type 0} (cmp : K → K → Ordering) (x y : Index K) (f : ℕ) (k 
         ];
       }
 
-  pub second-as : x.second ≡ y.second → x.far ≡ y.far → x.crowd ≡ y.crowd → HasSecond cmp x f k i → HasSecond cmp y f k i
-  second-as second far crowd e =
-      record { entry = place-kept _ _ _ i _ _ (subst (λ v. HasPlace v.items (f % 2 ^ 32) i) second) (subst (λ v. IsFull v.items (f % 2 ^ 32)) second) (far-as far crowd) e.entry }
+module _ {K : Type 0} (cmp : K → K → Ordering) (x y : Index K) (f : ℕ) (k : K) (i : ℕ) where
+  pub further-as : x.further ≡ y.further → x.lacks_places ≡ y.lacks_places → HasFurther cmp x f k i → HasFurther cmp y f k i
+  further-as further lacks e =
+      record {
+        entry = elim e.entry [
+          | inl none ↦ inl (subst IsTrue lacks none)
+          | inr there ↦ inr (subst (λ o. MatchOption o ⊥ (λ b. HasSecond cmp b.value f k i)) further there)
+        ];
+      }
 
-  pub placed-as : (h : ℕ) → x.near ≡ y.near → x.second ≡ y.second → x.far ≡ y.far → x.crowd ≡ y.crowd → HasPlaced cmp x h f k i → HasPlaced cmp y h f k i
-  placed-as h near second far crowd e =
-      record { entry = place-kept _ _ _ i _ _ (subst (λ v. HasPlace v.items h i) near) (subst (λ v. IsFull v.items h) near) (second-as second far crowd) e.entry }
-
-  pub entry-as : (h : ℕ) → x.near ≡ y.near → x.second ≡ y.second → x.far ≡ y.far → x.crowd ≡ y.crowd → x.late.items ≡ y.late.items → HasEntry cmp x h f k i → HasEntry cmp y h f k i
-  entry-as h near second far crowd late e =
-      record { entry = elim e.entry [ inl placed ↦ inl (placed-as h near second far crowd placed) | inr there ↦ inr (subst (λ xs. Contains xs i) late there) ] }
+  pub entry-as : (h : ℕ) → x.near.items ≡ y.near.items → x.further ≡ y.further → x.lacks_places ≡ y.lacks_places → HasEntry cmp x h f k i → HasEntry cmp y h f k i
+  entry-as h near further lacks e =
+      record { entry = place-kept _ _ _ i _ _ (subst (λ s. HasPlace s h i) near) (subst (λ s. IsFull s h) near) (further-as further lacks) e.entry }

@@ -1,3 +1,4 @@
+pub mod BucketLemmas
 pub mod EntryLemmas
 pub mod IndexLemmas
 pub mod MapLemmas

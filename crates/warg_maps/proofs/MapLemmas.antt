@@ -12,7 +12,6 @@ use Rattle.std_collections.specs.Layout.Columns.{entry_at}
 use Rattle.std_collections.proofs.HashLookup.{IsAbsent, IsFirst-from_index, IsAbsent-from_indices, distinct_push, keys_push}
 use Rattle.std_collections.proofs.Zip.{keys_of-zip, values_of-zip, zip-append, length-zip_even}
 use Rattle.indexmap.proofs.MapLemmas.{index-first, index-absent, absent_from_lookup}
-use Rattle.std.specs.Vec.{vec_len, vec_capacity}
 use Rattle.std.specs.declared.cmp.Ordering.{Ordering}
 use Rattle.warg_maps.specs.declared.index.Index.{Index}
 use Rattle.std.specs.Ordering.{is_eq}
@@ -53,40 +52,33 @@ module _ {K : Type 0} (eq : K → K → Bool) (cmp : K → K → Ordering) (hash
   pub hash-counted : {index : Index K} {hs : List ℕ} {ks : List K} → IsWhole eq cmp hash far index hs ks → length hs ≡ length ks
   hash-counted {index} {hs} {ks} w = ap length w.hashed ∙ length-map ks hash
 
-  pub whole-empty : (index : Index K) (hs : List ℕ) (ks : List K) → ks ≡ [] → hs ≡ [] → vec_len index.late ≡ 0 → IsWhole eq cmp hash far index hs ks
+  pub whole-empty : (index : Index K) (hs : List ℕ) (ks : List K) → ks ≡ [] → hs ≡ [] → IsWhole eq cmp hash far index hs ks
   unfolding IsDistinct
-  whole-empty index hs ks none bare late =
+  whole-empty index hs ks none bare =
       let n : length ks ≡ 0 = ap length none in
       record {
         distinct = subst (IsDistinct eq) (sym none) tt;
         hashed = bare ∙ ap (map hash) (sym none);
         placed = λ i d p. absurd (omega (arith, n, p));
-        late = omega (arith, late);
-        room = omega (arith, n);
         small = omega (arith, n);
       }
 
   -- what stays, stays whole
   pub whole-as : (old new : Index K) (hs hs' : List ℕ) (ks ks' : List K) → ((h f : ℕ) (k : K) (i : ℕ) → HasEntry cmp old h f k i → HasEntry cmp new h f k i)
-      → vec_len new.late ≡ vec_len old.late → vec_capacity old.late ≤ vec_capacity new.late → hs' ≡ hs → ks' ≡ ks → IsWhole eq cmp hash far old hs ks → IsWhole eq cmp hash far new hs' ks'
-  whole-as old new hs hs' ks ks' kept late capacity same_hashes same w =
+      → hs' ≡ hs → ks' ≡ ks → IsWhole eq cmp hash far old hs ks → IsWhole eq cmp hash far new hs' ks'
+  whole-as old new hs hs' ks ks' kept same_hashes same w =
       rw (same_hashes, same) (record {
         distinct = w.distinct;
         hashed = w.hashed;
         placed = λ i d p. kept _ _ _ i (w.placed i d p);
-        late = omega (arith, w.late, late);
-        room = omega (arith, w.room, capacity);
         small = w.small;
       })
-
-  pub whole-index : (old new : Index K) (hs : List ℕ) (ks : List K) → new ≡ old → IsWhole eq cmp hash far old hs ks → IsWhole eq cmp hash far new hs ks
-  whole-index old new hs ks same w = subst (λ x. IsWhole eq cmp hash far x hs ks) (sym same) w
 
   -- an index that was filled by the keys and their hashes
   pub whole-filled : (index : Index K) (hs : List ℕ) (ks : List K) (hs' : List ℕ) (ks' : List K) → ks' ≡ ks → hs' ≡ hs → IsDistinct eq ks → hs ≡ map hash ks
       → ((i : ℕ) (d : K) → i < length ks' → HasEntry cmp index (get_or hs' i 0) (far (get_or ks' i d)) (get_or ks' i d) i)
-      → vec_len index.late ≤ length ks' → length ks' ≤ vec_capacity index.late → length ks ≤ free → IsWhole eq cmp hash far index hs ks
-  whole-filled index hs ks hs' ks' same_keys same_hashes distinct hashed placed late capacity small =
+      → length ks ≤ free → IsWhole eq cmp hash far index hs ks
+  whole-filled index hs ks hs' ks' same_keys same_hashes distinct hashed placed small =
       let long = ap length same_keys in
       let counted : length hs ≡ length ks = ap length hashed ∙ length-map ks hash in
       record {
@@ -98,8 +90,6 @@ module _ {K : Type 0} (eq : K → K → Bool) (cmp : K → K → Ordering) (hash
             (subst (λ l. HasEntry cmp index (get_or hs' i 0) (far (get_or l i d)) (get_or l i d) i) same_keys (placed i d (omega (arith, p, long)))) in
             let read : get_or hs i 0 ≡ hash k = get_or_default hs i 0 (hash d) (omega (arith, p, counted)) ∙ ap (λ l. get_or l i (hash d)) hashed ∙ get_or-map hash ks i d in
             subst (λ n. HasEntry cmp index n (far k) k i) read seen;
-        late = omega (arith, late, long);
-        room = omega (arith, capacity, long);
         small = small;
       }
 
@@ -107,8 +97,6 @@ module _ {K : Type 0} (eq : K → K → Bool) (cmp : K → K → Ordering) (hash
 pub record Adds {K : Type 0} (cmp : K → K → Ordering) (old new : Index K) (h f : ℕ) (key : K) (place : ℕ) : Type 0 where
   pub added : HasEntry cmp new h f key place
   pub kept : (h f : ℕ) (k : K) (i : ℕ) → is_eq (cmp key k) ≡ false → HasEntry cmp old h f k i → HasEntry cmp new h f k i
-  pub late : vec_len new.late ≤ vec_len old.late + 1
-  pub capacity : vec_capacity new.late ≡ vec_capacity old.late
 
 -- a key that a look-up misses is at no place
 missing-at : {K X : Type 0} (t : K → Bool) (es : List (K × X)) → IsAbsent t es → (i : ℕ) (d : K) → i < length es → t (get_or (keys_of es) i d) ≡ false
@@ -119,9 +107,9 @@ missing-at t (e ∷ es) a (suc i) d p = missing-at t es a.1 i d (omega (arith, p
 module _ {K X : Type 0} {eq : K → K → Bool} (laws : IsEquivalence eq) {cmp : K → K → Ordering} (agrees : (x y : K) → eq x y ≡ is_eq (cmp x y)) (hash far : K → ℕ) where
   -- a new key goes last, with its hash and its place; es are the entries before
   pub whole-push : (old new : Index K) (hs : List ℕ) (ks : List K) (es : List (K × X)) (k : K) (v : X) (h : ℕ) → ks ≡ keys_of es → length ks ≡ length es → lookup (eq k) es ≡ None
-      → IsWhole eq cmp hash far old hs ks → h ≡ hash k → Adds cmp old new h (far k) k (length ks) → length ks < vec_capacity old.late → length ks < free →
+      → IsWhole eq cmp hash far old hs ks → h ≡ hash k → Adds cmp old new h (far k) k (length ks) → length ks < free →
       IsWhole eq cmp hash far new (hs ++ h ∷ []) (ks ++ k ∷ [])
-  whole-push old new hs ks es k v h seen even lacks w is adds room small =
+  whole-push old new hs ks es k v h seen even lacks w is adds small =
       let longer : length (ks ++ k ∷ []) ≡ length ks + 1 = length-append ks (k ∷ []) in
       let absent = absent_from_lookup (eq k) es lacks in
       record {
@@ -140,41 +128,38 @@ module _ {K X : Type 0} {eq : K → K → Bool} (laws : IsEquivalence eq) {cmp :
                   let added = subst (λ n. HasEntry cmp new n (far k) k (length ks)) is adds.added in
                   subst (λ x. HasEntry cmp new (hash x) (far x) x i) (sym same) (subst (λ n. HasEntry cmp new (hash k) (far k) k n) last added)
             ];
-        late = omega (arith, adds.late, w.late, longer);
-        room = omega (arith, adds.capacity, room, longer);
         small = omega (arith, small, longer);
       }
 
 -- where there is room for one more entry, each part has it
-pub record HasRoom (keys values hashes late n : ℕ) : Type 0 where
+pub record HasRoom (keys values hashes n : ℕ) : Type 0 where
   pub in_keys : n < keys
   pub in_values : n < values
   pub in_hashes : n < hashes
-  pub in_late : n < late
   pub is_small : n < free
 
-pub has-room : (keys values hashes late n : ℕ) → 0 < room_of keys values hashes late - n → HasRoom keys values hashes late n
+pub has-room : (keys values hashes n : ℕ) → 0 < room_of keys values hashes - n → HasRoom keys values hashes n
 unfolding room_of
-has-room keys values hashes late n some =
-    record { in_keys = omega (arith, some); in_values = omega (arith, some); in_hashes = omega (arith, some); in_late = omega (arith, some); is_small = omega (arith, some) }
+has-room keys values hashes n some =
+    record { in_keys = omega (arith, some); in_values = omega (arith, some); in_hashes = omega (arith, some); is_small = omega (arith, some) }
 
-pub room-small : (keys values hashes late : ℕ) → room_of keys values hashes late ≤ free
+pub room-small : (keys values hashes : ℕ) → room_of keys values hashes ≤ free
 unfolding room_of
-room-small keys values hashes late = omega arith
+room-small keys values hashes = omega arith
 
 -- more capacity is more room
-pub room-grows : (a b c d a' b' c' d' n : ℕ) → a ≤ a' → b ≤ b' → c ≤ c' → d ≤ d' → room_of a b c d - n ≤ room_of a' b' c' d' - n
+pub room-grows : (a b c a' b' c' n : ℕ) → a ≤ a' → b ≤ b' → c ≤ c' → room_of a b c - n ≤ room_of a' b' c' - n
 unfolding room_of
-room-grows a b c d a' b' c' d' n p q r s = omega (arith, p, q, r, s)
+room-grows a b c a' b' c' n p q r = omega (arith, p, q, r)
 
-pub room-enough : (a b c d n k : ℕ) → n + k ≤ a → n + k ≤ b → n + k ≤ c → n + k ≤ d → n + k ≤ free → k ≤ room_of a b c d - n
+pub room-enough : (a b c n k : ℕ) → n + k ≤ a → n + k ≤ b → n + k ≤ c → n + k ≤ free → k ≤ room_of a b c - n
 unfolding room_of
-room-enough a b c d n k p q r s t = omega (arith, p, q, r, s, t)
+room-enough a b c n k p q r s = omega (arith, p, q, r, s)
 
 -- what is left, if all fit, once the entries are gone
-pub room-keeps : (a b c d n : ℕ) → n ≤ a → n ≤ b → n ≤ c → n ≤ d → n ≤ free → n + (room_of a b c d - n) ≤ room_of a b c d
+pub room-keeps : (a b c n : ℕ) → n ≤ a → n ≤ b → n ≤ c → n ≤ free → n + (room_of a b c - n) ≤ room_of a b c
 unfolding room_of
-room-keeps a b c d n p q r s t = omega (arith, p, q, r, s, t)
+room-keeps a b c n p q r s = omega (arith, p, q, r, s)
 
 -- the sides of a reversed list are the reversed sides
 pub sides-reversed : {K X : Type 0} (ks : List K) (vs : List X) → length vs ≡ length ks → zip (reverse ks) (reverse vs) ≡ reverse (zip ks vs)

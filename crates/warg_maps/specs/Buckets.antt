@@ -17,23 +17,29 @@ module _ (slots : List Slot) where
   abbrev pub slot_at : ℕ → Slot
   slot_at k = slice_index_or slots k free_slot
 
-  -- a slot of the bucket of the hash h has the place i
+  -- the first k slots of the bucket of the hash h have places
+  abbrev pub AreTaken : ℕ → ℕ → Type 0
+  AreTaken h k = (j : ℕ) → j < k → (slot_at (start_of (length slots) h + j)).place ≢ free
+
+  -- a slot of the bucket of the hash h has the place i, and so has each before it another
   pub record HasPlace (h i : ℕ) : Type 0 where
     pub table : 8 ≤ length slots
     pub lane : ℕ
     pub in_bucket : lane < 8
+    pub before : AreTaken h lane
     pub is_place : i < free
     pub at : slot_at (start_of (length slots) h + lane) ≡ record { hash = h; place = i }
 
   -- each slot of the bucket of the hash h has a place, or there are no buckets
   abbrev pub IsFull : ℕ → Type 0
-  IsFull h = 8 ≤ length slots → (k : ℕ) → k < 8 → (slot_at (start_of (length slots) h + k)).place ≢ free
+  IsFull h = 8 ≤ length slots → AreTaken h 8
 
-  -- the slot at the index is of the bucket of h, and has no place
+  -- the slot at the index is the first of the bucket of h that has no place
   pub record IsFreeAt (h at : ℕ) : Type 0 where
     pub table : 8 ≤ length slots
     pub lane : ℕ
     pub in_bucket : lane < 8
+    pub before : AreTaken h lane
     pub within : at < length slots
     pub index : at ≡ start_of (length slots) h + lane
     pub is_free : (slot_at at).place ≡ free

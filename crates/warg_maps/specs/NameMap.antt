@@ -2,24 +2,21 @@
 use Rattle.std.specs.Prelude.{◌≡◌, ℕ, ◌<◌, ◌≤◌, Bool, List, Option, length, map, min, slice_index_or}
 use Rattle.std.specs.List.{IsDistinct, position_or_len}
 use Rattle.std.specs.Map.{keys_of, lookup}
-use Rattle.std.specs.Vec.{vec_len, vec_capacity}
 use Rattle.std.specs.declared.cmp.Ordering.{Ordering}
 use Rattle.indexmap.specs.IndexMap.{insert_entry}
 use Rattle.warg_maps.specs.declared.index.Index.{Index}
 use Rattle.warg_maps.specs.Buckets.{free}
 use Rattle.warg_maps.specs.Index.{HasEntry}
 
--- how many entries fit, where the keys, the values, the hashes and the late places have these capacities
-unfoldable pub room_of : ℕ → ℕ → ℕ → ℕ → ℕ
-room_of keys values hashes late = min (min keys values) (min (min hashes late) free)
+-- how many entries fit, where the keys, the values and the hashes have these capacities
+unfoldable pub room_of : ℕ → ℕ → ℕ → ℕ
+room_of keys values hashes = min (min keys values) (min hashes free)
 
--- no two keys are equal, each has its hash and its place, and there is room for the places
+-- no two keys are equal, and each has its hash and its place
 pub record IsWhole {K : Type 0} (eq : K → K → Bool) (cmp : K → K → Ordering) (hash far : K → ℕ) (index : Index K) (hashes : List ℕ) (keys : List K) : Type 0 where
   pub distinct : IsDistinct eq keys
   pub hashed : hashes ≡ map hash keys
   pub placed : (i : ℕ) (d : K) → i < length keys → let k = slice_index_or keys i d in HasEntry cmp index (hash k) (far k) k i
-  pub late : vec_len index.late ≤ length keys
-  pub room : length keys ≤ vec_capacity index.late
   pub small : length keys ≤ free
 
 -- fs is es with v put at k: its place is i, and `old` stood there

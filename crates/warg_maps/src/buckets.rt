@@ -24,22 +24,27 @@ fn start(len: usize, hash: u32) -> usize
     LANES * (hash as usize & (len / LANES - 1))
 }
 
-/// The first place in the hash's bucket that has the hash and passes the test.
+/// The first place in the hash's bucket that has the hash and passes the test, and whether the bucket is full. It is
+/// searched up to where it has no place yet.
 #[inline(always)]
-pub(crate) fn find<F: Fn(usize) -> bool>(slots: &[Slot], hash: u32, eq: F) -> Option<usize>
+pub(crate) fn find<F: Fn(usize) -> bool>(slots: &[Slot], hash: u32, eq: F) -> (Option<usize>, bool)
     requires len { 8 ≤ length slots.now }
     requires callable { F.IsAlwaysCallable eq }
-    ensures found { IfSome result (λ i. F.post eq i true) }
-    ensures missed { IfNone result ((i : ℕ) → HasPlace slots.now hash i → F.post eq i false) }
+    ensures found { IfSome result.0 (λ i. F.post eq i true) }
+    ensures missed { IfNone result.0 ((i : ℕ) → HasPlace slots.now hash i → F.post eq i false) }
+    ensures ends { IfNone result.0 (result.1 ≡ false → IsFull slots.now hash → ⊥) }
 {
     let first = start(slots.len(), hash);
     for lane in 0..LANES {
         let slot = slots[first + lane];
-        if slot.hash == hash && slot.place != FREE && eq(slot.place as usize) {
-            return Some(slot.place as usize);
+        if slot.place == FREE {
+            return (None, false);
+        }
+        if slot.hash == hash && eq(slot.place as usize) {
+            return (Some(slot.place as usize), true);
         }
     }
-    None
+    (None, true)
 }
 
 /// Where the hash's bucket has no place yet.

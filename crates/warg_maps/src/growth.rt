@@ -1,5 +1,5 @@
 //! How a map grows, and its index with it.
-ghost use Rattle.std.specs.Prelude.{◌≡◌, ◌+◌, ◌<◌, ◌≤◌, ℕ, [], length, slice_index_or, IsOk, IsTrue, IfOk, OnOk, OnErr, vec_len, vec_capacity};
+ghost use Rattle.std.specs.Prelude.{◌≡◌, ◌<◌, ◌≤◌, ℕ, length, slice_index_or, IsOk, IsTrue, IfOk, OnOk, OnErr};
 ghost use Rattle.std.specs.List.{IsDistinct};
 ghost use Rattle.std.specs.declared.cmp.Ordering.{Ordering};
 ghost use Rattle.indexmap.specs.IndexMap.{index_map_len, spare, hasher_of, IsEmpty, IsUnchanged, IsUnique, KeepsRoom};
@@ -8,8 +8,9 @@ ghost use Rattle.warg_maps.specs.Index.{HasEntry};
 
 use crate::NameMap;
 use crate::buckets::{FREE, Slot};
-use crate::index::Index;
+use crate::index::{Further, Index};
 use std::alloc::{AllocError, Global};
+use std::collections::BTreeMap;
 use std::hash::{BuildHasher, BuildHasherDefault, FoldHasher, Hash};
 
 /// A slot with no place.
@@ -36,12 +37,18 @@ fn empty_buckets(alloc: Global, entries: usize) -> Result<Vec<Slot>, AllocError>
     Ok(slots)
 }
 
-/// Takes all places out of the buckets.
-fn clear_buckets(slots: &mut Vec<Slot>) {
-    let len = slots.len();
+/// Gets the memory for so many slots. It grows where it is, if it can: to let a large block go costs the allocator more.
+fn reserve_slots(slots: &mut Vec<Slot>, count: usize) -> Result<(), AllocError>
+    ensures { slots.new.items ≡ slots.old.items }
+{
+    slots.reserve_exact(count.saturating_sub(slots.len()))
+}
+
+/// Makes it so many slots, and takes all places out.
+fn empty_slots(slots: &mut Vec<Slot>, count: usize) {
     slots.clear();
     // Where this failed, there would be no buckets, and the trees would serve.
-    let _refilled = slots.resize(len, EMPTY);
+    let _filled = slots.resize(count, EMPTY);
 }
 
 /// How many places the buckets have.
@@ -55,51 +62,95 @@ fn count_places(slots: &Vec<Slot>) -> usize {
     count
 }
 
+impl<K: Ord> Further<K> {
+    /// Second buckets for as many entries, with no place.
+    fn over(alloc: Global, entries: usize) -> Result<Further<K>, AllocError> {
+        Ok(Further {
+            second: empty_buckets(alloc, entries)?,
+            far: BTreeMap::new(alloc),
+            crowd: BTreeMap::new(alloc),
+        })
+    }
+
+    /// Takes all places out, and keeps the buckets.
+    fn clear(&mut self)
+    where
+        K: Drop,
+    {
+        let count = self.second.len();
+        empty_slots(&mut self.second, count);
+        self.far.clear();
+        self.crowd.clear();
+    }
+
+    /// How many places there are.
+    fn count(&self) -> usize {
+        let in_order = self.far.len().saturating_add(self.crowd.len());
+        count_places(&self.second).saturating_add(in_order)
+    }
+
+    /// Whether so many places are in the tree of hashes that wider second buckets are worth their cost.
+    fn is_crowded(&self) -> bool {
+        let far = self.far.len();
+        far >= 32 && far >= self.second.len()
+    }
+
+    /// Whether most of the `len` keys are in the tree of hashes.
+    fn is_mostly_far(&self, len: usize) -> bool {
+        let far = self.far.len();
+        far >= 32 && far > len / 2
+    }
+}
+
+/// Second buckets for as many entries, where there are any.
+fn further_for<K: Ord + Drop>(
+    alloc: Global,
+    entries: usize,
+) -> Result<Option<Box<Further<K>>>, AllocError> {
+    if entries == 0 {
+        return Ok(None);
+    }
+    let further = Further::over(alloc, entries)?;
+    Ok(Some(Box::new(alloc, further)?))
+}
+
 impl<K: Ord> Index<K> {
     /// Whether so many places are in the tree of hashes that wider second buckets are worth their cost.
     pub(crate) fn is_crowded(&self) -> bool {
-        let far = self.far.len();
-        far >= 32 && far >= self.second.len()
+        match &self.further {
+            Some(further) => further.is_crowded(),
+            None => false,
+        }
     }
 
     /// Whether most of the `len` keys are in the tree of hashes. Their choice crowds the second buckets, and wider ones
     /// would hardly take more of them.
     pub(crate) fn is_mostly_far(&self, len: usize) -> bool {
-        let far = self.far.len();
-        far >= 32 && far > len / 2 && self.late.is_empty()
+        match &self.further {
+            Some(further) => !self.lacks_places && further.is_mostly_far(len),
+            None => false,
+        }
     }
 
-    /// Makes room for the places of `additional` more entries than there are, to be late.
-    pub(crate) fn reserve_late(&mut self, len: usize, additional: usize) -> Result<(), AllocError>
-        requires { vec_len self.old.late ≤ len }
-        ensures kept { (cmp : K → K → Ordering) (h f : ℕ) (k : K) (i : ℕ) → HasEntry cmp self.old h f k i → HasEntry cmp self.new h f k i }
-        ensures late { vec_len self.new.late ≡ vec_len self.old.late }
-        ensures ok { OnOk result (len + additional ≤ vec_capacity self.new.late) }
-        ensures capacity { vec_capacity self.old.late ≤ vec_capacity self.new.late }
-    {
-        let Some(room) = (len - self.late.len()).checked_add(additional) else {
-            return Err(AllocError);
-        };
-        self.late.reserve(room)
+    /// How many keys have no place in the near buckets.
+    pub(crate) fn count_further(&self) -> usize {
+        match &self.further {
+            Some(further) => further.count(),
+            None => 0,
+        }
     }
 
     /// Takes all places out, and keeps the buckets.
     pub(crate) fn clear(&mut self)
     where
         K: Drop,
-        ensures late { vec_len self.new.late ≡ 0 }
-        ensures capacity { vec_capacity self.new.late ≡ vec_capacity self.old.late }
     {
-        clear_buckets(&mut self.near);
-        clear_buckets(&mut self.second);
-        self.far.clear();
-        self.crowd.clear();
-        self.late.clear();
-    }
-
-    /// For how many of the `len` keys there was no place in the near buckets.
-    pub(crate) fn count_further(&self, len: usize) -> usize {
-        len.saturating_sub(count_places(&self.near))
+        let count = self.near.len();
+        empty_slots(&mut self.near, count);
+        if let Some(further) = &mut self.further {
+            further.clear();
+        }
+        self.lacks_places = false;
     }
 
     /// Takes all places out, and makes near buckets for `near` entries and second ones for `second`.
@@ -111,17 +162,13 @@ impl<K: Ord> Index<K> {
     ) -> Result<(), AllocError>
     where
         K: Drop,
-        ensures late { OnOk result (vec_len self.new.late ≡ 0) }
-        ensures capacity { vec_capacity self.new.late ≡ vec_capacity self.old.late }
-        ensures err { OnErr result (self.new ≡ self.old) }
+        ensures err { OnErr result ((cmp : K → K → Ordering) (h f : ℕ) (k : K) (i : ℕ) → HasEntry cmp self.old h f k i → HasEntry cmp self.new h f k i) }
     {
-        let near = empty_buckets(alloc, near)?;
-        let second = empty_buckets(alloc, second)?;
-        self.near = near;
-        self.second = second;
-        self.far.clear();
-        self.crowd.clear();
-        self.late.clear();
+        let count = slots_for(near);
+        reserve_slots(&mut self.near, count)?;
+        self.further = further_for(alloc, second)?;
+        empty_slots(&mut self.near, count);
+        self.lacks_places = false;
         Ok(())
     }
 }
@@ -132,12 +179,8 @@ impl<K: Ord + Hash + Clone + Drop> Index<K> {
         requires distinct { IsDistinct K.eq keys.now }
         requires lengths { length hashes.now ≡ length keys.now }
         requires small { length keys.now ≤ FREE }
-        requires late { vec_len self.old.late ≡ 0 }
-        requires room { length keys.now ≤ vec_capacity self.old.late }
         ensures placed { (i : ℕ) (d : K) → i < length keys.now → let k = slice_index_or keys.now i d in
             HasEntry K.cmp self.new (slice_index_or hashes.now i 0) (far_hash (K.hash_input k)) k i }
-        ensures late { vec_len self.new.late ≤ length keys.now }
-        ensures capacity { vec_capacity self.new.late ≡ vec_capacity self.old.late }
     {
         for place in 0..keys.len() {
             self.add(hashes[place], None, &keys[place], place);
@@ -156,11 +199,8 @@ impl<K: Ord + Hash + Clone + Drop> Index<K> {
         requires small { length keys.now ≤ FREE }
         ensures placed { IfOk result (λ x. (i : ℕ) (d : K) → i < length keys.now → let k = slice_index_or keys.now i d in
             HasEntry K.cmp x (slice_index_or hashes.now i 0) (far_hash (K.hash_input k)) k i) }
-        ensures late { IfOk result (λ x. vec_len x.late ≤ length keys.now) }
-        ensures room { IfOk result (λ x. length keys.now ≤ vec_capacity x.late) }
     {
         let mut index = Index::new(alloc);
-        index.reserve_late(0, keys.len())?;
         index.widen(alloc, keys.len(), further.saturating_mul(2))?;
         index.refill(keys, hashes);
         Ok(index)
@@ -192,7 +232,7 @@ impl<K: Ord + Hash + Clone + Drop, V, S: BuildHasher> NameMap<K, V, S> {
         ensures spare { spare self.new ≡ spare self.old }
     {
         let alloc = *self.hashes.allocator();
-        let further = self.index.count_further(self.keys.len());
+        let further = self.index.count_further();
         let room = self.keys.capacity();
         self.index.widen(alloc, room, further.saturating_mul(2))?;
         self.index
@@ -200,21 +240,19 @@ impl<K: Ord + Hash + Clone + Drop, V, S: BuildHasher> NameMap<K, V, S> {
         Ok(())
     }
 
-    /// Makes room for more keys, values, hashes and places.
+    /// Makes room for more keys, values and hashes.
     fn reserve_parts(&mut self, additional: usize) -> Result<(), AllocError>
         ensures same { IsUnchanged self.old self.new }
         ensures hasher { hasher_of self.new ≡ hasher_of self.old }
         ensures ok { OnOk result (additional ≤ spare self.new) }
         ensures spare { spare self.old ≤ spare self.new }
     {
-        let len = self.keys.len();
-        if additional > FREE as usize - len {
+        if additional > FREE as usize - self.keys.len() {
             return Err(AllocError);
         }
         self.keys.reserve(additional)?;
         self.values.reserve(additional)?;
-        self.hashes.reserve(additional)?;
-        self.index.reserve_late(len, additional)
+        self.hashes.reserve(additional)
     }
 
     #[inline(never)]
@@ -240,7 +278,7 @@ impl<K: Ord + Hash + Clone + Drop, V, S: BuildHasher> NameMap<K, V, S> {
         ensures spare { spare self.old ≤ spare self.new }
     {
         if self.index.is_crowded() {
-            // Where there is no memory for wider buckets, the trees serve on.
+            // Where there is no memory for new buckets, what there is serves on.
             let _widened = self.reindex();
         }
         if self.room_left() == 0 {

@@ -1,11 +1,11 @@
 //! Where entries are, by their keys.
-ghost use Rattle.std.specs.Prelude.{◌≡◌, ◌+◌, ◌<◌, ◌≤◌, ◌↔◌, ◌%◌, ◌^◌, ℕ, [], ◌∷◌, ◌++◌, length, IfSome, IfNone, IsTrue, Some, true, false, vec_len, vec_capacity};
-ghost use Rattle.std.specs.List.{Contains};
+ghost use Rattle.std.specs.Prelude.{◌≡◌, ◌<◌, ◌↔◌, ◌%◌, ◌^◌, ℕ, IfSome, IfNone, IsTrue, Some, true, false};
+ghost use Rattle.std.specs.Option.{MatchOption};
 ghost use Rattle.std.specs.Ordering.{is_eq};
 ghost use Rattle.std.specs.BTreeMap.{get};
 ghost use Rattle.warg_maps.specs.Buckets.{HasPlace, IsFull};
 ghost use Rattle.warg_maps.specs.FarHash.{far_hash};
-ghost use Rattle.warg_maps.specs.Index.{HasEntry, HasFar, HasPlaced, HasSecond, IsAt};
+ghost use Rattle.warg_maps.specs.Index.{HasEntry, HasFar, HasFurther, HasSecond, IsAt};
 
 use crate::Query;
 use crate::buckets::{FREE, Slot, find, free_at, put};
@@ -13,21 +13,28 @@ use std::alloc::Global;
 use std::collections::BTreeMap;
 use std::hash::{DefaultHasher, Hash, Hasher};
 
-/// The places of the entries, by the keys. A key whose near bucket is full has its place by another hash, in a second
-/// bucket, in a tree of hashes, or in a tree of keys where even that hash is another key's. No choice of keys fills
-/// these.
+/// The places of the entries, by the keys. A key whose near bucket is full has its place further on. No choice of keys
+/// fills all that is there.
 #[derive(Drop)]
 pub struct Index<K: Ord> {
     /// By the map's own hashes.
     pub near: Vec<Slot>,
+    /// The places of the others, once there are any. They are in a box, since a map that moves is to be small.
+    pub further: Option<Box<Further<K>>>,
+    /// Whether there was no memory for a place.
+    pub lacks_places: bool,
+}
+
+/// The places of keys whose near buckets are full, by another hash: in a second bucket, in a tree of hashes, or in a tree
+/// of keys where even that hash is another key's.
+#[derive(Drop)]
+pub struct Further<K: Ord> {
     /// By the low halves of the other hashes.
     pub second: Vec<Slot>,
     /// By the other hashes, whole.
     pub far: BTreeMap<u64, usize>,
     /// By the keys themselves.
     pub crowd: BTreeMap<K, usize>,
-    /// Those for which a tree had no memory.
-    pub late: Vec<usize>,
 }
 
 /// Whether the query stands for the key at the place.
@@ -66,41 +73,45 @@ pub(crate) fn low_half(hash: u64) -> u32
     (hash & 0xFFFF_FFFF) as u32
 }
 
-/// The place of the key in the bucket of its hash.
+/// The place of the key in the bucket of its hash, and whether it may be further on: a bucket that is not full has never
+/// refused a place.
 #[inline(always)]
 fn find_in_bucket<K: Ord + Hash, Q: Query<K>>(
     slots: &Vec<Slot>,
     keys: &[K],
     hash: u32,
     key: Q,
-) -> Option<usize>
-    ensures found { IfSome result (IsAt (Q.equivalent key) keys.now) }
-    ensures missed { IfNone result ((i : ℕ) → HasPlace slots.now.items hash i →
+) -> (Option<usize>, bool)
+    ensures found { IfSome result.0 (IsAt (Q.equivalent key) keys.now) }
+    ensures missed { IfNone result.0 ((i : ℕ) → HasPlace slots.now.items hash i →
         IsAt (Q.equivalent key) keys.now i → ⊥) }
+    ensures ends { IfNone result.0 (result.1 ≡ false → IsFull slots.now.items hash → ⊥) }
 {
     if slots.len() < 8 {
-        return None;
+        return (None, true);
     }
     let eq = |i: usize| -> bool
         ensures { IsTrue result ↔ IsAt (Q.equivalent key) keys.entry.now i }
     { is_at(keys, key, i) };
-    match find(slots.as_slice(), hash, eq) {
-        Some(place) => Some(place),
-        None => None,
+    let (found, is_full) = find(slots.as_slice(), hash, eq);
+    match found {
+        Some(place) => (Some(place), is_full),
+        None => (None, is_full),
     }
 }
 
-/// Whether the bucket of the hash is full. A bucket that is not has never refused a place.
-fn is_full(slots: &Vec<Slot>, hash: u32) -> bool
-    ensures { result ≡ false → IsFull slots.now.items hash → ⊥ }
+/// The place of the key, by a look at all.
+#[inline(never)]
+fn find_among_all<K: Ord + Hash, Q: Query<K>>(keys: &[K], key: Q) -> Option<usize>
+    ensures found { IfSome result (IsAt (Q.equivalent key) keys.now) }
+    ensures missed { IfNone result ((i : ℕ) → IsAt (Q.equivalent key) keys.now i → ⊥) }
 {
-    if slots.len() < 8 {
-        return true;
+    for at in 0..keys.len() {
+        if is_at(keys, key, at) {
+            return Some(at);
+        }
     }
-    match free_at(slots.as_slice(), hash) {
-        Some(_) => false,
-        None => true,
-    }
+    None
 }
 
 /// Adds the place of a key to those in order, unless memory runs out or its copy differs.
@@ -121,37 +132,18 @@ fn add_ordered<K: Ord + Clone + Drop>(crowd: &mut BTreeMap<K, usize>, key: &K, p
     }
 }
 
-impl<K: Ord> Index<K> {
+impl<K: Ord> Further<K> {
     /// No places.
-    pub fn new(alloc: Global) -> Index<K>
-        ensures late { result.late.items ≡ [] }
-        ensures room { vec_capacity result.late ≡ 0 }
-    {
-        Index {
-            near: Vec::new(alloc),
+    pub(crate) fn new(alloc: Global) -> Further<K> {
+        Further {
             second: Vec::new(alloc),
             far: BTreeMap::new(alloc),
             crowd: BTreeMap::new(alloc),
-            late: Vec::new(alloc),
         }
     }
 }
 
-impl<K: Ord + Hash> Index<K> {
-    /// The place of the key, among those for which a tree had no memory.
-    fn find_late<Q: Query<K>>(&self, keys: &[K], key: Q) -> Option<usize>
-        ensures found { IfSome result (IsAt (Q.equivalent key) keys.now) }
-        ensures missed { IfNone result ((i : ℕ) → Contains self.now.late.items i →
-            IsAt (Q.equivalent key) keys.now i → ⊥) }
-    {
-        for place in self.late.iter() {
-            if is_at(keys, key, *place) {
-                return Some(*place);
-            }
-        }
-        None
-    }
-
+impl<K: Ord + Hash> Further<K> {
     /// The place of the key whose two buckets are full.
     #[inline(never)]
     fn find_far<Q: Query<K>>(&self, keys: &[K], far: u64, key: Q) -> Option<usize>
@@ -182,10 +174,11 @@ impl<K: Ord + Hash> Index<K> {
             HasSecond K.cmp self.now far k i → IsAt (Q.equivalent key) keys.now i → ⊥) }
     {
         let low = low_half(far);
-        if let Some(place) = find_in_bucket(&self.second, keys, low, key) {
+        let (found, second_is_full) = find_in_bucket(&self.second, keys, low, key);
+        if let Some(place) = found {
             return Some(place);
         }
-        if !is_full(&self.second, low) {
+        if !second_is_full {
             return None;
         }
         match self.find_far(keys, far, key) {
@@ -193,67 +186,15 @@ impl<K: Ord + Hash> Index<K> {
             None => None,
         }
     }
-
-    /// The place of the key, but for those of which a tree had no memory, and its other hash where that was computed.
-    #[inline(always)]
-    fn find_placed<Q: Query<K>>(
-        &self,
-        keys: &[K],
-        hash: u32,
-        key: Q,
-    ) -> (Option<usize>, Option<u64>)
-        ensures found { IfSome result.0 (IsAt (Q.equivalent key) keys.now) }
-        ensures missed { IfNone result.0 ((i : ℕ) (k : K) → IsTrue (Q.equivalent key k) →
-            HasPlaced K.cmp self.now hash (far_hash (Q.hash_input key)) k i →
-            IsAt (Q.equivalent key) keys.now i → ⊥) }
-        ensures far { IfSome result.1 (λ far. far ≡ far_hash (Q.hash_input key)) }
-    {
-        if let Some(place) = find_in_bucket(&self.near, keys, hash, key) {
-            return (Some(place), None);
-        }
-        if !is_full(&self.near, hash) {
-            return (None, None);
-        }
-        let far = far_hash(&key);
-        match self.find_second(keys, far, key) {
-            Some(place) => (Some(place), Some(far)),
-            None => (None, Some(far)),
-        }
-    }
-
-    /// The place of the key that the query stands for, and its other hash where that was computed.
-    #[inline(always)]
-    pub fn search<Q: Query<K>>(&self, keys: &[K], hash: u32, key: Q) -> (Option<usize>, Option<u64>)
-        ensures found { IfSome result.0 (IsAt (Q.equivalent key) keys.now) }
-        ensures missed { IfNone result.0 ((i : ℕ) (k : K) → IsTrue (Q.equivalent key k) →
-            HasEntry K.cmp self.now hash (far_hash (Q.hash_input key)) k i →
-            IsAt (Q.equivalent key) keys.now i → ⊥) }
-        ensures far { IfSome result.1 (λ far. far ≡ far_hash (Q.hash_input key)) }
-    {
-        // Without buckets, a key would be looked for by its other hash, and in both trees.
-        if keys.is_empty() {
-            return (None, None);
-        }
-        let (placed, far) = self.find_placed(keys, hash, key);
-        match placed {
-            Some(place) => (Some(place), far),
-            None => match self.find_late(keys, key) {
-                Some(place) => (Some(place), far),
-                None => (None, far),
-            },
-        }
-    }
 }
 
-impl<K: Ord + Hash + Clone + Drop> Index<K> {
+impl<K: Ord + Hash + Clone + Drop> Further<K> {
     /// Adds the place of a key whose two buckets are full, or answers that there was no memory.
     fn add_far(&mut self, far: u64, key: &K, place: usize) -> bool
         ensures added { IsTrue result → HasFar K.cmp self.new far key.now place }
         ensures kept { (f : ℕ) (k : K) (i : ℕ) → is_eq (K.cmp key.now k) ≡ false →
             HasFar K.cmp self.old f k i → HasFar K.cmp self.new f k i }
-        ensures near { self.new.near ≡ self.old.near }
         ensures second { self.new.second ≡ self.old.second }
-        ensures late { self.new.late ≡ self.old.late }
     {
         match self.far.insert(far, place) {
             Ok(None) => true,
@@ -273,8 +214,6 @@ impl<K: Ord + Hash + Clone + Drop> Index<K> {
         ensures added { IsTrue result → HasSecond K.cmp self.new far key.now place }
         ensures kept { (f : ℕ) (k : K) (i : ℕ) → is_eq (K.cmp key.now k) ≡ false →
             HasSecond K.cmp self.old f k i → HasSecond K.cmp self.new f k i }
-        ensures near { self.new.near ≡ self.old.near }
-        ensures late { self.new.late ≡ self.old.late }
     {
         if put(&mut self.second, low_half(far), place as u32) {
             return true;
@@ -284,41 +223,135 @@ impl<K: Ord + Hash + Clone + Drop> Index<K> {
         }
         false
     }
+}
 
-    /// Adds the place of a key, or answers that there was no memory. Its other hash is computed where it is not given.
-    fn add_placed(&mut self, hash: u32, far: Option<u64>, key: &K, place: usize) -> bool
-        requires place { place < FREE }
-        requires far { IfSome far (λ far. far ≡ far_hash (K.hash_input key.now)) }
-        ensures added { IsTrue result →
-            HasPlaced K.cmp self.new hash (far_hash (K.hash_input key.now)) key.now place }
-        ensures kept { (h f : ℕ) (k : K) (i : ℕ) → is_eq (K.cmp key.now k) ≡ false →
-            HasPlaced K.cmp self.old h f k i → HasPlaced K.cmp self.new h f k i }
-        ensures late { self.new.late ≡ self.old.late }
+impl<K: Ord> Index<K> {
+    /// No places.
+    pub fn new(alloc: Global) -> Index<K> {
+        Index {
+            near: Vec::new(alloc),
+            further: None,
+            lacks_places: false,
+        }
+    }
+}
+
+impl<K: Ord + Hash> Index<K> {
+    /// The place of the key whose near bucket is full, where there was memory for all.
+    #[inline(always)]
+    fn find_opened<Q: Query<K>>(&self, keys: &[K], far: u64, key: Q) -> Option<usize>
+        ensures found { IfSome result (IsAt (Q.equivalent key) keys.now) }
+        ensures missed { IfNone result ((i : ℕ) (k : K) → IsTrue (Q.equivalent key k) →
+            MatchOption self.now.further ⊥ (λ b. HasSecond K.cmp b.value far k i) →
+            IsAt (Q.equivalent key) keys.now i → ⊥) }
     {
-        if put(&mut self.near, hash, place as u32) {
-            return true;
+        match &self.further {
+            Some(further) => further.find_second(keys, far, key),
+            None => None,
         }
-        let far = given_or_far_hash(far, key);
-        if self.add_second(far, key, place) {
-            return true;
+    }
+
+    /// The place of the key whose near bucket is full.
+    #[inline(never)]
+    fn find_further<Q: Query<K>>(&self, keys: &[K], far: u64, key: Q) -> Option<usize>
+        ensures found { IfSome result (IsAt (Q.equivalent key) keys.now) }
+        ensures missed { IfNone result ((i : ℕ) (k : K) → IsTrue (Q.equivalent key k) →
+            HasFurther K.cmp self.now far k i → IsAt (Q.equivalent key) keys.now i → ⊥) }
+    {
+        if let Some(place) = self.find_opened(keys, far, key) {
+            return Some(place);
         }
-        false
+        if self.lacks_places {
+            return find_among_all(keys, key);
+        }
+        None
+    }
+
+    /// The place of the key that the query stands for, and its other hash where that was computed.
+    #[inline(always)]
+    pub fn search<Q: Query<K>>(&self, keys: &[K], hash: u32, key: Q) -> (Option<usize>, Option<u64>)
+        ensures found { IfSome result.0 (IsAt (Q.equivalent key) keys.now) }
+        ensures missed { IfNone result.0 ((i : ℕ) (k : K) → IsTrue (Q.equivalent key k) →
+            HasEntry K.cmp self.now hash (far_hash (Q.hash_input key)) k i →
+            IsAt (Q.equivalent key) keys.now i → ⊥) }
+        ensures far { IfSome result.1 (λ far. far ≡ far_hash (Q.hash_input key)) }
+    {
+        // Without buckets, a key would be looked for by its other hash.
+        if keys.is_empty() {
+            return (None, None);
+        }
+        let (found, near_is_full) = find_in_bucket(&self.near, keys, hash, key);
+        if let Some(place) = found {
+            return (Some(place), None);
+        }
+        if !near_is_full {
+            return (None, None);
+        }
+        let far = far_hash(&key);
+        match self.find_further(keys, far, key) {
+            Some(place) => (Some(place), Some(far)),
+            None => (None, Some(far)),
+        }
+    }
+}
+
+impl<K: Ord + Hash + Clone + Drop> Index<K> {
+    /// Sees to it that a key whose near bucket is full can have a place, unless memory runs out.
+    fn open_further(&mut self)
+        ensures kept { (f : ℕ) (k : K) (i : ℕ) → HasFurther K.cmp self.old f k i → HasFurther K.cmp self.new f k i }
+        ensures near { self.new.near ≡ self.old.near }
+    {
+        if self.further.is_some() {
+            return;
+        }
+        let alloc = *self.near.allocator();
+        if let Ok(further) = Box::new(alloc, Further::new(alloc)) {
+            self.further = Some(further);
+        }
+    }
+
+    /// Adds the place of a key whose near bucket is full, or answers that there was no memory.
+    fn add_opened(&mut self, far: u64, key: &K, place: usize) -> bool
+        requires place { place < FREE }
+        ensures added { IsTrue result → HasFurther K.cmp self.new far key.now place }
+        ensures kept { (f : ℕ) (k : K) (i : ℕ) → is_eq (K.cmp key.now k) ≡ false →
+            HasFurther K.cmp self.old f k i → HasFurther K.cmp self.new f k i }
+        ensures near { self.new.near ≡ self.old.near }
+    {
+        match &mut self.further {
+            Some(further) => further.add_second(far, key, place),
+            None => false,
+        }
+    }
+
+    /// Adds the place of a key whose near bucket is full. Others keep theirs.
+    #[inline(never)]
+    fn add_further(&mut self, far: u64, key: &K, place: usize)
+        requires place { place < FREE }
+        ensures added { HasFurther K.cmp self.new far key.now place }
+        ensures kept { (f : ℕ) (k : K) (i : ℕ) → is_eq (K.cmp key.now k) ≡ false →
+            HasFurther K.cmp self.old f k i → HasFurther K.cmp self.new f k i }
+        ensures near { self.new.near ≡ self.old.near }
+    {
+        self.open_further();
+        if self.add_opened(far, key, place) {
+            return;
+        }
+        self.lacks_places = true;
     }
 
     /// Adds the place of a key. Others keep theirs. Its other hash is computed where it is not given.
     pub fn add(&mut self, hash: u32, far: Option<u64>, key: &K, place: usize)
         requires place { place < FREE }
         requires far { IfSome far (λ far. far ≡ far_hash (K.hash_input key.now)) }
-        requires room { vec_len self.old.late < vec_capacity self.old.late }
         ensures added { HasEntry K.cmp self.new hash (far_hash (K.hash_input key.now)) key.now place }
         ensures kept { (h f : ℕ) (k : K) (i : ℕ) → is_eq (K.cmp key.now k) ≡ false →
             HasEntry K.cmp self.old h f k i → HasEntry K.cmp self.new h f k i }
-        ensures late { vec_len self.new.late ≤ vec_len self.old.late + 1 }
-        ensures capacity { vec_capacity self.new.late ≡ vec_capacity self.old.late }
     {
-        if self.add_placed(hash, far, key, place) {
+        if put(&mut self.near, hash, place as u32) {
             return;
         }
-        self.late.push_reserved(place);
+        let far = given_or_far_hash(far, key);
+        self.add_further(far, key, place);
     }
 }

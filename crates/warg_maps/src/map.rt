@@ -38,7 +38,7 @@ impl<K: Ord + Hash, V, S: BuildHasher> Model for NameMap<K, V, S> {
 
     ghost coded = { hash_map_code K.code V.code S.code };
 
-    ghost view = { λ m. hash_map (zip m.keys.items m.values.items) m.hash_builder (room_of m.keys.cap m.values.cap m.hashes.cap m.index.late.cap - length m.keys.items) };
+    ghost view = { λ m. hash_map (zip m.keys.items m.values.items) m.hash_builder (room_of m.keys.cap m.values.cap m.hashes.cap - length m.keys.items) };
 
     ghost invariant = { λ m. (length m.values.items ≡ length m.keys.items) × IsWhole K.eq K.cmp (λ k. table_hash S.BuildHasher S.Hasher.Hasher m.hash_builder (K.hash_input k)) (λ k. far_hash (K.hash_input k)) m.index m.hashes.items m.keys.items };
 }
@@ -53,10 +53,10 @@ pub(crate) fn near_hash<Q: Hash + Copy, S: BuildHasher>(hash_builder: &S, key: Q
 }
 
 /// For how many entries there is room, where the parts have these capacities.
-fn room_of(keys: usize, values: usize, hashes: usize, late: usize) -> usize
-    ensures { result ≡ room_of keys values hashes late }
+fn room_of(keys: usize, values: usize, hashes: usize) -> usize
+    ensures { result ≡ room_of keys values hashes }
 {
-    keys.min(values).min(hashes.min(late).min(FREE as usize))
+    keys.min(values).min(hashes.min(FREE as usize))
 }
 
 impl<K: Ord + Hash, V> NameMap<K, V, BuildHasherDefault<FoldHasher>> {
@@ -109,8 +109,7 @@ impl<K: Ord + Hash, V, S: BuildHasher> NameMap<K, V, S> {
         ensures unique { IsUnique K.eq self.now }
     {
         let hashes = self.hashes.capacity();
-        let late = self.index.late.capacity();
-        let room = room_of(self.keys.capacity(), self.values.capacity(), hashes, late);
+        let room = room_of(self.keys.capacity(), self.values.capacity(), hashes);
         room.saturating_sub(self.keys.len())
     }
 

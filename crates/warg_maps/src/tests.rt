@@ -1,4 +1,4 @@
-use super::index::Index;
+use super::index::{Further, Index};
 use super::*;
 use std::hash::{DefaultHasher, Hash, Hasher};
 use std::string::String;
@@ -42,6 +42,14 @@ fn map_of(rt: &HostRuntime, len: usize, hostile: bool) -> Result<NameMap<String,
     Ok(map)
 }
 
+/// How many places the map has in its tree of hashes, and in that of keys.
+fn in_trees(map: &NameMap<String, usize>) -> (usize, usize) {
+    match &map.index.further {
+        Some(further) => (further.far.len(), further.crowd.len()),
+        None => (0, 0),
+    }
+}
+
 #[test]
 fn finds_names_of_one_hash(rt: HostRuntime) -> Result<(), Fail> {
     let map = map_of(&rt, 2000, true)?;
@@ -57,9 +65,9 @@ fn finds_names_of_one_hash(rt: HostRuntime) -> Result<(), Fail> {
 #[test]
 fn names_of_one_hash_have_one_near_bucket(rt: HostRuntime) -> Result<(), Fail> {
     let map = map_of(&rt, 2000, true)?;
-    assert_eq!(rt; map.index.count_further(map.len()), 1992);
-    assert_eq!(rt; map.index.crowd.len(), 0);
-    assert_eq!(rt; map.index.late.len(), 0);
+    assert_eq!(rt; map.index.count_further(), 1992);
+    assert_eq!(rt; in_trees(&map).1, 0);
+    assert!(rt; !map.index.lacks_places);
     Ok(())
 }
 
@@ -72,8 +80,8 @@ fn finds_names_that_fill_a_second_bucket(rt: HostRuntime) -> Result<(), Fail> {
         map.insert(name.clone()?, number)?;
         number = number.wrapping_add(1);
     }
-    assert!(rt; map.index.far.len() > 100);
-    assert_eq!(rt; map.index.crowd.len(), 0);
+    assert!(rt; in_trees(&map).0 > 100);
+    assert_eq!(rt; in_trees(&map).1, 0);
     number = 0;
     for name in names.iter() {
         assert_eq!(rt; map.get(name).copied(), Some(number));
@@ -89,26 +97,41 @@ fn finds_keys_of_one_whole_hash(rt: HostRuntime) -> Result<(), Fail> {
     for number in 0..3_usize {
         keys.push(name(&rt, number, false)?)?;
     }
-    let mut index = Index::new(rt.alloc());
+    let mut further = Further::new(rt.alloc());
     for place in 0..keys.len().min(3) {
-        assert!(rt; index.add_second(77, &keys[place], place));
+        assert!(rt; further.add_second(77, &keys[place], place));
     }
-    assert_eq!(rt; index.far.len(), 1);
-    assert_eq!(rt; index.crowd.len(), 2);
+    assert_eq!(rt; further.far.len(), 1);
+    assert_eq!(rt; further.crowd.len(), 2);
     for place in 0..keys.len() {
         assert_eq!(rt;
-            index.find_second(keys.as_slice(), 77, &keys[place]),
+            further.find_second(keys.as_slice(), 77, &keys[place]),
             Some(place)
         );
     }
     assert_eq!(rt;
-        index.find_second(keys.as_slice(), 77, &name(&rt, 3, false)?),
+        further.find_second(keys.as_slice(), 77, &name(&rt, 3, false)?),
         None
     );
     assert_eq!(rt;
-        index.find_second(keys.as_slice(), 78, &name(&rt, 0, false)?),
+        further.find_second(keys.as_slice(), 78, &name(&rt, 0, false)?),
         None
     );
+    Ok(())
+}
+
+#[test]
+fn finds_keys_that_have_no_place(rt: HostRuntime) -> Result<(), Fail> {
+    let mut keys = Vec::new(rt.alloc());
+    for number in 0..3_usize {
+        keys.push(name(&rt, number, false)?)?;
+    }
+    let mut index = Index::new(rt.alloc());
+    assert_eq!(rt; index.search(keys.as_slice(), 7, &keys[2]).0, None);
+    index.lacks_places = true;
+    assert_eq!(rt; index.search(keys.as_slice(), 7, &keys[2]).0, Some(2));
+    let other = name(&rt, 3, false)?;
+    assert_eq!(rt; index.search(keys.as_slice(), 7, &other).0, None);
     Ok(())
 }
 

@@ -27,7 +27,7 @@ impl<K: Ord + Hash + Clone + Drop, V: Clone + Drop, S: BuildHasher + Copy> Clone
         }
         let values = self.values.clone()?;
         let hashes = self.hashes.clone()?;
-        let further = self.index.count_further(self.keys.len());
+        let further = self.index.count_further();
         let index = Index::over(
             *self.hashes.allocator(),
             keys.as_slice(),

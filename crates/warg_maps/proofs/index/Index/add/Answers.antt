@@ -1,30 +1,25 @@
 use Rattle.std.proofs.Common.{inl, inr}
 use mathlib.Core.Path.{refl, sym, subst}
-use Rattle.std.specs.List.{Contains}
-use Rattle.std.proofs.lemmas.List.Elements.{Contains-push, Contains-append_left}
-use Rattle.warg_maps.proofs.IndexLemmas.{placed-as}
+use Rattle.warg_maps.specs.Buckets.{HasPlace, IsFull}
+use Rattle.warg_maps.specs.Index.{HasFurther}
+use Rattle.warg_maps.proofs.IndexLemmas.{place-kept, further-as}
 use Rattle.warg_maps.proofs.index.Index.add.Goals as goal
 
-pub returns-then-add_placed-clause-added : goal.returns-then-add_placed-clause-added
-returns-then-add_placed-clause-added g c = record { entry = inl (c.add_placed.ensures.added c.if-add_placed.true) }
+pub returns-then-put-clause-added : goal.returns-then-put-clause-added
+returns-then-put-clause-added g c = record { entry = inl (c.put.ensures.put c.if-put.true) }
 
-pub returns-then-add_placed-clause-kept : goal.returns-then-add_placed-clause-kept
-returns-then-add_placed-clause-kept g c h f k i apart e =
-    record {
-      entry = elim e.entry [
-        | inl placed ↦ inl (c.add_placed.ensures.kept h f k i apart placed)
-        | inr late ↦ inr (subst (λ v. Contains v.items i) (sym c.add_placed.ensures.late) late)
-      ];
-    }
+pub returns-then-put-clause-kept : goal.returns-then-put-clause-kept
+returns-then-put-clause-kept g c h f k i apart e = record { entry = place-kept _ _ _ i _ _ (c.put.ensures.kept _ i) (c.put.ensures.full _) (further-as _ _ _ f k i refl refl) e.entry }
 
 pub returns-clause-added : goal.returns-clause-added
-returns-clause-added g c = record { entry = inr (subst (λ xs. Contains xs c.args.place) (sym c.push_reserved.ensures.items) (Contains-push _ _)) }
+returns-clause-added g c =
+    let full = subst (λ v. IsFull v.items c.args.hash) (sym c.add_further.ensures.near) (c.put.ensures.refused c.if-put.false) in
+    let further = subst (λ f. HasFurther g.K.Ord.cmp c.add_further.new.self f c.args.key.now c.args.place) c.given_or_far_hash-far.ensures c.add_further.ensures.added in
+    record { entry = inr (full, further) }
 
 pub returns-clause-kept : goal.returns-clause-kept
 returns-clause-kept g c h f k i apart e =
     record {
-      entry = elim e.entry [
-        | inl placed ↦ inl (placed-as _ _ _ f k i h refl refl refl refl (c.add_placed.ensures.kept h f k i apart placed))
-        | inr late ↦ inr (subst (λ xs. Contains xs i) (sym c.push_reserved.ensures.items) (Contains-append_left _ _ i (subst (λ v. Contains v.items i) (sym c.add_placed.ensures.late) late)))
-      ];
+      entry = place-kept _ _ _ i _ _ (λ p. subst (λ v. HasPlace v.items h i) (sym c.add_further.ensures.near) (c.put.ensures.kept h i p))
+          (λ full. subst (λ v. IsFull v.items h) (sym c.add_further.ensures.near) (c.put.ensures.full h full)) (λ x. c.add_further.ensures.kept f k i apart (further-as _ _ _ f k i refl refl x)) e.entry;
     }

@@ -26,9 +26,6 @@ loop-place-preserved g c =
     = λ i p d.
     let k = get_or keys i d in
     let apart : is_eq (cmp key k) ≡ false = sym (g.met.K.Ord.matches_eq key k) ∙ g.met.K.Eq.laws.symm key k ∙ ap (eq k) (here d) ∙ apart_from_distinct eq keys i place d c.requires.distinct p within in
-    c.add.ensures.kept (get_or hashes i 0) (far k) k i apart (at.invariant.0 i d p) in
-    let now : Holds place = λ d. subst (λ k. HasEntry cmp new (get_or hashes place 0) (far k) k place) (here d) c.add.ensures.added in (
-      λ i d p. below_more Holds place earlier now i p d,
-      omega (arith, c.add.ensures.late, at.invariant.1),
-      c.add.ensures.capacity ∙ at.invariant.2,
-    )
+    c.add.ensures.kept (get_or hashes i 0) (far k) k i apart (at.invariant i d p) in
+    let now : Holds place = λ d. subst (λ k. HasEntry cmp new (get_or hashes place 0) (far k) k place) (here d) c.add.ensures.added in
+    λ i d p. below_more Holds place earlier now i p d

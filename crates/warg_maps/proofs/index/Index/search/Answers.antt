@@ -1,15 +1,16 @@
-use Rattle.std.proofs.Common.{ℕ, inl, inr, IfNone, IsTrue}
-use mathlib.Core.Path.{subst}
-use Rattle.warg_maps.specs.FarHash.{far_hash}
-use Rattle.warg_maps.specs.Index.{HasPlaced, IsAt}
+use mathlib.Core.Path.{sym, subst}
+use Rattle.warg_maps.specs.Index.{HasFurther}
+use Rattle.warg_maps.proofs.IndexLemmas.{no-place, when-none}
 use Rattle.warg_maps.proofs.index.Index.search.Goals as goal
 
-pub returns-in-None-find_late-clause-missed : goal.returns-in-None-find_late-clause-missed
-returns-in-None-find_late-clause-missed g c i k stands e at =
-    let Missed = (i : ℕ) (k : g.row.K.Denot) → IsTrue (g.Q.Query.equivalent c.args.key k)
-    → HasPlaced g.K.Ord.cmp c.args.self.now c.args.hash (far_hash (g.Q.Hash.hash_input c.args.key)) k i → IsAt (g.Q.Query.equivalent c.args.key) c.args.keys.now i → ⊥ in
-    let missed : Missed = subst (λ o. IfNone o Missed) c.in-None.is c.find_placed-placed.ensures.missed in
-    elim e.entry [
-      | inl placed ↦ missed i k stands placed at
-      | inr late ↦ c.in-None-find_late.ensures.missed i late at
-    ]
+pub returns-then-not-near_is_full-clause-missed : goal.returns-then-not-near_is_full-clause-missed
+returns-then-not-near_is_full-clause-missed g c i k stands e at =
+    let missed = when-none c.in_default.is c.find_in_bucket-found.ensures.missed in
+    let ends = when-none c.in_default.is c.find_in_bucket-found.ensures.ends in
+    no-place _ _ i _ (λ p. missed i p at) (λ full _. ends c.if-not-near_is_full.true full) e.entry
+
+pub returns-in-None-clause-missed : goal.returns-in-None-clause-missed
+returns-in-None-clause-missed g c i k stands e at =
+    let missed = when-none c.in_default.is c.find_in_bucket-found.ensures.missed in
+    no-place _ _ i _ (λ p. missed i p at)
+    (λ _ far. c.in-None.ensures.missed i k stands (subst (λ f. HasFurther g.K.Ord.cmp c.args.self.now f k i) (sym c.far_hash-far.ensures) far) at) e.entry

@@ -25,7 +25,7 @@ insert_backwards-requires-clause-room g c =
 pub invariant_of-other : goal.invariant_of-other
 invariant_of-other g c =
     let gone = c.insert_backwards.ensures.emptied in
-    (ap length gone.1 ∙ sym (ap length gone.0), whole-empty _ _ _ _ _ _ _ gone.0 c.clear.ensures.items c.clear-2.ensures.late)
+    (ap length gone.1 ∙ sym (ap length gone.0), whole-empty _ _ _ _ _ _ _ gone.0 c.clear.ensures.items)
 
 pub returns-clause-entries : goal.returns-clause-entries
 returns-clause-entries g c =
@@ -73,8 +73,8 @@ returns-clause-room g c =
 pub returns-clause-other_room : goal.returns-clause-other_room
 returns-clause-other_room g c =
     let gone = c.insert_backwards in
-    let rooms : room_of gone.new.keys.cap gone.new.values.cap c.clear.new.self.cap c.clear-2.new.self.late.cap ≡ room_of c.other.inside.keys.cap c.other.inside.values.cap c.other.inside.hashes.cap c.other.inside.index.late.cap
-    = λ j. room_of ((gone.ensures.capacity.0 ∙ c.reverse.ensures.capacity) j) ((gone.ensures.capacity.1 ∙ c.reverse-2.ensures.capacity) j) (c.clear.ensures.capacity j) (c.clear-2.ensures.capacity j) in
+    let rooms : room_of gone.new.keys.cap gone.new.values.cap c.clear.new.self.cap ≡ room_of c.other.inside.keys.cap c.other.inside.values.cap c.other.inside.hashes.cap
+    = λ j. room_of ((gone.ensures.capacity.0 ∙ c.reverse.ensures.capacity) j) ((gone.ensures.capacity.1 ∙ c.reverse-2.ensures.capacity) j) (c.clear.ensures.capacity j) in
     (omega (arith, ap spare c.other.view_is, rooms, ap length gone.ensures.emptied.0), ap hasher_of c.other.view_is)
 
 pub returns-clause-other_capacity : goal.returns-clause-other_capacity
@@ -83,9 +83,9 @@ returns-clause-other_capacity g c =
     let w = c.other.invariant.1 in
     let seen = length-seen m.keys.items m.values.items _ c.other.invariant.0 (ap (λ v. v.entries) c.other.view_is) in
     let gone = c.insert_backwards in
-    let rooms : room_of gone.new.keys.cap gone.new.values.cap c.clear.new.self.cap c.clear-2.new.self.late.cap ≡ room_of c.other.inside.keys.cap c.other.inside.values.cap c.other.inside.hashes.cap c.other.inside.index.late.cap
-    = λ j. room_of ((gone.ensures.capacity.0 ∙ c.reverse.ensures.capacity) j) ((gone.ensures.capacity.1 ∙ c.reverse-2.ensures.capacity) j) (c.clear.ensures.capacity j) (c.clear-2.ensures.capacity j) in
+    let rooms : room_of gone.new.keys.cap gone.new.values.cap c.clear.new.self.cap ≡ room_of c.other.inside.keys.cap c.other.inside.values.cap c.other.inside.hashes.cap
+    = λ j. room_of ((gone.ensures.capacity.0 ∙ c.reverse.ensures.capacity) j) ((gone.ensures.capacity.1 ∙ c.reverse-2.ensures.capacity) j) (c.clear.ensures.capacity j) in
     let counted = hash-counted _ _ _ _ w in
-    let kept = room-keeps m.keys.cap m.values.cap m.hashes.cap m.index.late.cap (length m.keys.items) (omega (arith, m.keys.ok.0, m.keys.ok.1)) (omega (arith, m.values.ok.0, m.values.ok.1, c.other.invariant.0))
-    (omega (arith, counted, m.hashes.ok.0, m.hashes.ok.1)) w.room w.small in
+    let kept = room-keeps m.keys.cap m.values.cap m.hashes.cap (length m.keys.items) (omega (arith, m.keys.ok.0, m.keys.ok.1)) (omega (arith, m.values.ok.0, m.values.ok.1, c.other.invariant.0))
+    (omega (arith, counted, m.hashes.ok.0, m.hashes.ok.1)) w.small in
     omega (arith, ap spare c.other.view_is, seen, rooms, ap length gone.ensures.emptied.0, kept)

@@ -37,8 +37,6 @@ refill-requires g c =
       distinct = subst (IsDistinct g.K.PartialEq.eq) (sym c.as_slice-2.ensures.value) after;
       lengths = ap length c.as_slice-3.ensures.value ∙ ap length c.hash_anew.ensures.hashes ∙ lib.ListN.length-map _ _ ∙ ap length (c.as_slice.ensures.value ∙ sym c.as_slice-2.ensures.value);
       small = omega (arith, seen, c.sift.ensures.fewer, w.small);
-      late = c.clear.ensures.late;
-      room = omega (arith, seen, c.sift.ensures.fewer, w.room, c.clear.ensures.capacity);
     }
 
 pub invariant_of-self : goal.invariant_of-self
@@ -55,8 +53,7 @@ invariant_of-self g c =
     let after = subst (IsDistinct g.K.PartialEq.eq) (keys_of-zip ls us zipped.0) (distinct_retained _ g.met.K.Eq.laws T c.args.keep (zip ks vs) (zip ls us) zipped.1 before) in (
       zipped.0,
       whole-filled _ _ _ _ _ c.hash_anew.new.hashes.items ls _ _ c.as_slice-2.ensures.value c.as_slice-3.ensures.value after
-          (c.hash_anew.ensures.hashes ∙ ap (Rattle.std.specs.Prelude.map _) c.as_slice.ensures.value) c.refill.ensures.placed c.refill.ensures.late
-          (omega (arith, ap length c.as_slice-2.ensures.value, c.sift.ensures.fewer, w.room, c.clear.ensures.capacity, c.refill.ensures.capacity))
+          (c.hash_anew.ensures.hashes ∙ ap (Rattle.std.specs.Prelude.map _) c.as_slice.ensures.value) c.refill.ensures.placed
           (omega (arith, c.sift.ensures.fewer, w.small)),
     )
 
@@ -71,9 +68,8 @@ returns g c =
     let zipped = retains_zip T c.args.keep ks vs ls us c.sift.ensures.sifted in
     let filtered = subst (λ v. RetainsPairs T c.args.keep v.entries (zip ls us)) c.self.view_is zipped.1 in
     let unique = subst (IsDistinct g.K.PartialEq.eq) (keys-seen c.self.inside.keys.items c.self.inside.values.items _ c.self.invariant.0 (ap (λ v. v.entries) c.self.view_is)) c.self.invariant.1.distinct in
-    let late = c.refill.ensures.capacity ∙ c.clear.ensures.capacity in
-    let rooms : room_of c.sift.new.keys.cap c.sift.new.values.cap c.hash_anew.new.hashes.cap c.refill.new.self.late.cap ≡ room_of m.keys.cap m.values.cap m.hashes.cap m.index.late.cap
-    = λ j. room_of (c.sift.ensures.capacity.0 j) (c.sift.ensures.capacity.1 j) (c.hash_anew.ensures.capacity j) (late j) in
+    let rooms : room_of c.sift.new.keys.cap c.sift.new.values.cap c.hash_anew.new.hashes.cap ≡ room_of m.keys.cap m.values.cap m.hashes.cap
+    = λ j. room_of (c.sift.ensures.capacity.0 j) (c.sift.ensures.capacity.1 j) (c.hash_anew.ensures.capacity j) in
     record {
       bound = length_retained T _ _ _ filtered;
       filtered = filtered;

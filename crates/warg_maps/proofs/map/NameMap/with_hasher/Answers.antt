@@ -8,7 +8,7 @@ use Rattle.warg_maps.proofs.map.NameMap.with_hasher.Goals as goal
 pub invariant_of-result : goal.invariant_of-result
 invariant_of-result g c = (
   ap length c.new-2.ensures.items ∙ sym (ap length c.new.ensures.items),
-  whole-empty _ _ _ _ _ _ _ c.new.ensures.items c.new-3.ensures.items (c.new-4.result.late.ok.0 ∙ ap length c.new-4.ensures.late),
+  whole-empty _ _ _ _ _ _ _ c.new.ensures.items c.new-3.ensures.items,
 )
 
 pub returns : goal.returns

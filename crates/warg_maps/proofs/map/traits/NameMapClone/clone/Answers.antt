@@ -37,7 +37,7 @@ invariant_of-result g c =
     let x = c.in_ok-index.ensures in (
       omega (arith, c.in_ok-values.ensures.cases.1, values.ok.0, m.values.ok.0, c.self.invariant.0, long),
       whole-filled _ _ f _ c.in_ok-index.index hashes.items keys.items _ _ c.as_slice.ensures.value c.as_slice-2.ensures.value
-          (IsDistinct-equal_keys _ g.met.K.Eq.laws _ _ equal w.distinct) hashed x.placed x.late x.room (omega (arith, long, w.small)),
+          (IsDistinct-equal_keys _ g.met.K.Eq.laws _ _ equal w.distinct) hashed x.placed (omega (arith, long, w.small)),
     )
 
 pub returns : goal.returns

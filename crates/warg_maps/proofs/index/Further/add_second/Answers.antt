@@ -3,7 +3,7 @@ use Rattle.std.specs.Prelude.{◌%◌, ◌^◌}
 use mathlib.Core.Path.{refl, sym, subst}
 use Rattle.warg_maps.specs.Buckets.{HasPlace, IsFull}
 use Rattle.warg_maps.proofs.IndexLemmas.{place-kept, far-as}
-use Rattle.warg_maps.proofs.index.Index.add_second.Goals as goal
+use Rattle.warg_maps.proofs.index.Further.add_second.Goals as goal
 
 pub returns-then-put-clause-added : goal.returns-then-put-clause-added
 returns-then-put-clause-added g c _ = record { entry = inl (subst (λ n. HasPlace c.put.new.slots.items n c.args.place) c.low_half.ensures (c.put.ensures.put c.if-put.true)) }
