@@ -1,6 +1,8 @@
 -- How logs compare, and what is answered for want of a side.
-use Rattle.std.proofs.Common.{◌≡◌, ◌∙◌, ◌++◌, ℕ, List, ap, append_assoc, codes, Result}
-use Rattle.warg_protocol.specs.Logs.{EnvelopeData, Kind, SignatureRelation, IsComparison, contents}
+use Rattle.std.proofs.Common.{◌≡◌, ◌∙◌, ◌++◌, ℕ, List, ap, sym, append_assoc, codes, Option, Result}
+use Rattle.warg_protocol.specs.Logs.{EnvelopeData, Kind, KindLaws, SignatureRelation, IsAccepted, IsComparison, contents, last_id}
+use Rattle.warg_protocol.specs.Records.{RecordId}
+use Rattle.warg_replay.proofs.LogLaws.{head-last}
 use Rattle.warg_replay.specs.declared.audited_log.comparison.Comparison.{Comparison}
 use Rattle.warg_audit.specs.LogAnswers.{LogDisplay}
 use Rattle.warg_audit.specs.Printouts.{OutputData}
@@ -25,13 +27,17 @@ three_parts first second third begun so_far whole added last is_first more is_se
 -- ---- logs as their envelopes
 
 module _ (Says : List ℕ → RecordWords → Type 0) {View Offence : Type 0} (kind : Kind View Offence) where
-  -- of states that stand for the envelopes
-  pub told_of_kept : (here there : View) (old new : List EnvelopeData) (comparison : Comparison) (printed : OutputData)
-      → here ≡ kind.view_of old → there ≡ kind.view_of new
-      → IsComparison (kind.head here) (kind.head there) (contents old) (contents new) comparison
-      → IsComparisonPrinted Says kind.id (kind.head here) old new comparison printed → IsComparisonOf Says kind old new printed
-  told_of_kept here there old new comparison printed e f h is =
-      record { comparison = comparison; compares = rw (e, f) at h; is = rw e at is }
+  -- of lawful envelopes, by the ids of the last of them
+  pub told_of_kept : (laws : KindLaws kind) (b d : SignatureRelation) (old new : List EnvelopeData) (head : Option RecordId) (comparison : Comparison) (printed : OutputData)
+      → IsAccepted kind b old → IsAccepted kind d new → head ≡ last_id kind old
+      → IsComparison (last_id kind old) (last_id kind new) (contents old) (contents new) comparison
+      → IsComparisonPrinted Says kind.id head old new comparison printed → IsComparisonOf Says kind old new printed
+  told_of_kept laws b d old new head comparison printed before after last compares is =
+      record {
+        comparison = comparison;
+        compares = rw (head-last kind laws b old before, head-last kind laws d new after) compares;
+        is = rw (head-last kind laws b old before ∙ sym last) is;
+      }
 
   pub told_of_same : (old new here there : List EnvelopeData) (printed : OutputData) → old ≡ here → new ≡ there
       → IsComparisonOf Says kind old new printed → IsComparisonOf Says kind here there printed

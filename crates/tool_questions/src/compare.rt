@@ -22,7 +22,7 @@ use warg_audit::files::command_output::CommandOutput;
 use warg_audit::files::input::Input;
 use warg_protocol::registry::RecordId;
 use warg_protocol::signing::Verifier;
-use warg_protocol::{AuditedLog, Comparison, ProtoEnvelope};
+use warg_protocol::{AuditedRecords, Comparison, ProtoEnvelope};
 
 // That a log is the same as its older copy, on a line: how many records it has, and its head.
 fn same_text(alloc: Global, count: usize, head: Option<&RecordId>) -> Result<String, AllocError>
@@ -98,33 +98,36 @@ fn comparison_answer<L: ToolLog>(
     }
 }
 
-// The answer to two copies of a log, the older one first.
-fn compared<L: ToolLog, V: Verifier + Drop>(
+// The answer to the records of two copies of a log, the older ones first.
+fn compared<L: ToolLog>(
     alloc: Global,
-    old: &AuditedLog<L, V>,
-    new: &AuditedLog<L, V>,
+    old: &AuditedRecords<L>,
+    new: &AuditedRecords<L>,
 ) -> Result<CommandOutput, CommandError>
-    ensures { Answers (IsComparisonOf L.says_words L.kind (envelopes old.now.records)
-        (envelopes new.now.records)) result }
+    ensures { Answers (IsComparisonOf L.says_words L.kind (envelopes old.now)
+        (envelopes new.now)) result }
 {
     let comparison = old.compare(new);
     let (here, there) = (old.records(), new.records());
     Ok(comparison_answer::<L>(alloc, comparison, old.head(), here, there)?)
 }
 
-// The answer by the newer copy, where the older one is a lawful log.
+// The answer by the newer copy, where the older one is a lawful log, of which only the records are kept.
 fn compared_with<L: ToolLog, V: Verifier + Drop>(
     alloc: Global,
-    old: &AuditedLog<L, V>,
+    old: &AuditedRecords<L>,
     verifier: V,
     new: Input<'_>,
 ) -> Result<CommandOutput, CommandError>
     ensures { ForDisplay L.log L.Record.reading L.report (λ log. (here : List (List ℕ)) →
-        envelopes old.now.records ≡ envelopes_of log here → Answers (IsComparedWith log L.says_words
+        envelopes old.now ≡ envelopes_of log here → Answers (IsComparedWith log L.says_words
         (V.belongs verifier) here (record_lines new.entry.bytes.items)) result) }
 {
     match side::<L, V>(alloc, verifier, "new", new) {
-        Ok(new) => compared(alloc, old, &new),
+        Ok(new) => {
+            let records = new.into_records();
+            compared(alloc, old, &records)
+        }
         Err(error) => Err(error),
     }
 }
@@ -141,7 +144,10 @@ pub fn compare_answer<L: ToolLog, V: Verifier>(
         (record_lines old.entry.bytes.items) (record_lines new.entry.bytes.items)) result) }
 {
     match side::<L, Lent<'_, V>>(alloc, Lent(verifier), "old", old) {
-        Ok(old) => compared_with(alloc, &old, Lent(verifier), new),
+        Ok(old) => {
+            let records = old.into_records();
+            compared_with(alloc, &records, Lent(verifier), new)
+        }
         Err(error) => Err(error),
     }
 }

@@ -33,8 +33,8 @@ pub use warg_maps::NameSet;
 pub use warg_permissions::{InvalidPermission, PermissionParseError};
 pub use warg_protobuf::{Envelope, EnvelopeView, Message, WireError};
 pub use warg_replay::audited_log::{
-    AuditedLog, Comparison, ExternallyVerifiedLog, ExternallyVerifiedLog as HostedLog,
-    HeadComparison, Link,
+    AuditedLog, AuditedRecords, Comparison, ExternallyVerifiedLog,
+    ExternallyVerifiedLog as HostedLog, HeadComparison, Link,
 };
 pub use warg_replay::{
     Effect, Named, PersistentState, RunCause, RunError, Validator, run, run_from,
