@@ -41,7 +41,8 @@ pub struct ShownHead {
     pub count: usize,
     pub nanos: u32,
     pub version: u32,
-    /// 1 if `count` says how many records there are, 0 where that is not known: `warg_resume` was not told it.
+    /// 1 if `count` says how many records there are, 0 where that is not known: `warg_resume` was not told it, or a
+    /// `size_t` can't say it.
     pub is_counted: u32,
 }
 
