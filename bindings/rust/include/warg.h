@@ -162,7 +162,8 @@ struct warg_head {
     size_t count;
     uint32_t nanos;
     uint32_t version;
-    /* 1 if `count` says how many records there are, 0 where that is not known: `warg_resume` was not told it. */
+    /* 1 if `count` says how many records there are, 0 where that is not known: `warg_resume` was not told it, or a
+     * `size_t` can't say it. */
     uint32_t is_counted;
 };
 
