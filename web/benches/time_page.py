@@ -1,10 +1,12 @@
-"""Times the page: how long after its load the first verdict stands there, logs of 10,000 records, and what it loads.
+"""Times the page: how long after its load the first verdict stands there, logs of 10,000 records, and what it loads; and
+tells how much memory the browser has.
 
     python3 web/benches/time_page.py [COUNT]    in each browser that is there, COUNT times (5); WEOLDRIN_BROWSERS names
                                                 those to take
 
 The verdict is that on the example, which is asked for as soon as the page's scripts run. Times are in milliseconds, the
-median and the least; the sizes are those of gzip -9.
+median and the least; the sizes are those of gzip -9. Memory is that of all the browser's processes, of which a page that
+several share counts in parts (the proportional set size, as Linux has it), less what they have for an empty page.
 """
 import gzip
 import pathlib
@@ -12,6 +14,7 @@ import statistics
 import subprocess
 import sys
 import tempfile
+import time
 
 TESTS = pathlib.Path(__file__).resolve().parents[1] / "tests"
 sys.path.insert(0, str(TESTS))
@@ -67,6 +70,50 @@ def time_log(browser: Browser, address: str, path: pathlib.Path, count: int) -> 
     told(f"{path.name}, {RECORDS} records", times)
 
 
+def processes(first: int) -> list[pathlib.Path]:
+    """The folders in /proc of a process, and of those that it began, or that one of these did."""
+    parents: dict[int, int] = {}
+    for it in pathlib.Path("/proc").glob("[0-9]*/stat"):
+        try:
+            # The name of a program may have any sign, and stands in parentheses.
+            parents[int(it.parent.name)] = int(it.read_text(encoding="utf-8").rpartition(")")[2].split()[1])
+        except OSError:
+            continue
+    found = [first]
+    for process in found:
+        found += [child for child, parent in parents.items() if parent == process]
+    return [pathlib.Path(f"/proc/{it}") for it in found]
+
+
+def memory_of(browser: Browser) -> float:
+    """The browser's memory, in megabytes, once it came to rest."""
+    time.sleep(2)
+    size = 0
+    for it in processes(browser.process.pid):
+        try:
+            said = (it / "smaps_rollup").read_text(encoding="utf-8")
+        except OSError:
+            continue
+        size += sum(int(line.split()[1]) for line in said.splitlines() if line.startswith("Pss:"))
+    return size / 1000
+
+
+def tell_memory(browser: Browser, address: str, path: pathlib.Path) -> None:
+    """Tells what the browser has with the verdict on the example, and on a log, more than with an empty page."""
+    browser.open("about:blank")
+    before = memory_of(browser)
+    for name in ("example", path.name):
+        browser.open(address)
+        browser.wait(MARK.format("ready"))
+        if name == "example":
+            browser.run(CLICK)
+        else:
+            browser.run("at('toy').checked = true")
+            browser.drop([path])
+        browser.wait(MARK.format("verdict"))
+        print(f"  memory with {name}: {memory_of(browser) - before:.0f} MB more than {before:.0f}", flush=True)
+
+
 def sizes(address: str, browser: Browser, one_file: pathlib.Path) -> None:
     """How much is loaded, of the page as it is served, and as one file."""
     browser.open(address)
@@ -105,6 +152,7 @@ def main() -> int:
                     time_opening(browser, address, count)
                 for path in (p256, toys):
                     time_log(browser, served.address, path, max(1, count // 2))
+                tell_memory(browser, served.address, p256)
                 sizes(served.address, browser, one_file)
     finally:
         end_all()

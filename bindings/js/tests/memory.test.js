@@ -19,6 +19,11 @@ import { START, envelopes, keys, operatorLog, record } from "./published.js";
 
 const [alice, bob] = await keys();
 const made = await envelopes(4, alice, bob);
+// The library's calls, but for those on trees, that which closes, and that which names a status to who writes C.
+const EXPORTS = WebAssembly.Module.exports((await Library.load()).module).map((it) => it.name);
+const CALLS = EXPORTS.filter((it) => /^warg_(?!registry_|close$|status_name$)/.test(it)).map((it) => it.slice(5)).sort();
+// These take none: what is no envelope is told by its first bytes, and the others give numbers, or a text that is there.
+const WITHOUT_MEMORY = ["append_signed what is none", "head_of", "length", "compare", "version"];
 
 /** How much is in use, when what calls were passed and gave is no longer kept. */
 function used(library) {
@@ -226,6 +231,7 @@ test("where growth is refused, each call says so or does without, and the log is
   const checkpoint = { logRoot: root, logLength: 8n, mapRoot: root, timestamp: 9n };
   const signature = await alice.sign(library.checkpointMessage(checkpoint));
   const saved = log.toJson();
+  const shown = { checkpoint: { ...checkpoint, logLength: 2 ** 40 }, logId: root, recordId: root, proof };
   const calls = {
     ask: () => log.ask(made[3]),
     "ask what is refused": () => log.ask(made[0]),
@@ -234,6 +240,7 @@ test("where growth is refused, each call says so or does without, and the log is
     "append_signed what is none": () => log.appendSigned(Buffer.from("0b", "hex")),
     verify: () => library.verify(question.key, question.message, question.signature),
     head: () => log.head(),
+    head_of: () => log.last(),
     length: () => log.length,
     record: () => log.record(1),
     id: () => library.recordId("package", made[3]),
@@ -253,6 +260,8 @@ test("where growth is refused, each call says so or does without, and the log is
     verify_checkpoint: () => operators.verifyCheckpoint(checkpoint, records.keyId(alice.publicKey), signature),
     verify_inclusion: () => library.verifyInclusion(root, root, 0, 2 ** 40, root, proof),
     verify_consistency: () => library.verifyConsistency(3, root, 2 ** 40, root, proof),
+    compare_checkpoints: () => library.compareCheckpoints(checkpoint, { ...checkpoint, logLength: 2 ** 40 }, proof),
+    compare_leaves: () => library.compareLeaves(0, shown, shown),
     verify_presence: () => library.verifyPresence(root, root, root, Buffer.alloc(32, 255).toString("base64")),
     verify_absence: () => library.verifyAbsence(root, root, Buffer.alloc(32, 255).toString("base64")),
     proof_fault: () => library.verifyAbsence(root, root, "x"),
@@ -278,21 +287,44 @@ test("where growth is refused, each call says so or does without, and the log is
     if (name.startsWith("append") && log.length === 4) assert.fail(`${name} did without memory`);
     assert.deepEqual(state(), before, name);
   }
-  assert.ok(refused.length >= 14, `refused: ${refused}`);
-  for (const it of ["log_id", "leaf", "checkpoint_message", "verify_checkpoint"]) assert.ok(refused.includes(it), it);
-  await assert.rejects(async () => {
-    library.limit(library.memory().size);
-    const giveBack = fill(library);
-    try {
-      await PackageLog.fromJson(saved, { library });
-    } finally {
-      giveBack();
-    }
-  }, OutOfMemory);
-  library.limit(Number.MAX_SAFE_INTEGER);
+  const isNamed = (name) => Object.keys(calls).some((it) => it.split(" ")[0] === name);
+  assert.deepEqual(CALLS.filter((it) => !isNamed(it)), ["resume", "resume_counted"]);
+  assert.deepEqual(Object.keys(calls).filter((it) => !refused.includes(it)), WITHOUT_MEMORY);
   // Made again, it does what it does with memory.
   calls.append();
   assert.equal(log.length, 4);
+});
+
+test("where growth is refused, no log is resumed by halves", async () => {
+  const library = await Library.load();
+  const log = new PackageLog(library);
+  for (const it of made) log.appendSigned(it);
+  const saved = log.toJson();
+  for (const count of [undefined, made.length]) {
+    // So that what calls are passed has its room.
+    (await PackageLog.fromJson(saved, { library, count })).close();
+    const before = used(library);
+    let refusals = 0;
+    for (let room = 16, resumed; !resumed; room *= 2) {
+      // So much is left: first for no handle, then for no log, and then for a part of what is resumed.
+      const left = library.taken(room);
+      library.limit(library.memory().size);
+      const giveBack = fill(library);
+      library.givenBack(left);
+      try {
+        resumed = await PackageLog.fromJson(saved, { library, count });
+      } catch (error) {
+        assert.ok(error instanceof OutOfMemory, String(error));
+        refusals++;
+      }
+      giveBack();
+      library.limit(Number.MAX_SAFE_INTEGER);
+      if (resumed) assert.equal(resumed.toJson(), saved);
+      resumed?.close();
+      assert.equal(used(library), before);
+    }
+    assert.ok(refusals > 4, `${refusals} times refused`);
+  }
 });
 
 test("a limit bounds what a log may take", async () => {
