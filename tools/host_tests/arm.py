@@ -47,11 +47,11 @@ def openssl_flags(hosts: Hosts, root: pathlib.Path) -> list[str]:
     return [*headers, f"-L{folder}"] if folder else []
 
 
-def test_c_on_arm(hosts: Hosts, library: pathlib.Path, kept: Kept) -> None:
+def test_c_on_arm(hosts: Hosts, library: pathlib.Path, kept: Kept, packages: Packages) -> None:
     """The programs and the tests of examples/c, where there is OpenSSL."""
     flags = openssl_flags(hosts, pathlib.Path(kept["QEMU_LD_PREFIX"]))
     if not compiles(*flags, "-lcrypto", text=f"#include <openssl/evp.h>\n{PROGRAM}", compiler=CROSS):
-        hosts.pass_over("aarch64: c", "OpenSSL for 64-bit ARM can't be had (libssl-dev:arm64)")
+        hosts.lack("aarch64: c", "OpenSSL for 64-bit ARM is not there (libssl-dev:arm64)", packages.are_there)
         return
     folder = hosts.folder / "aarch64-c"
     words = ["make", "-s", "-k", "-O", f"-j{os.cpu_count()}", "-C", str(ROOT / "examples/c"), f"BUILD={folder}"]
@@ -79,7 +79,8 @@ def test_rust_on_arm(hosts: Hosts, library: pathlib.Path, kept: Kept, packages: 
     """The crate, whose keys are OpenSSL's where that is there."""
     words = rustc(hosts, packages)
     if not words:
-        hosts.pass_over("aarch64: rust", "Rust's library for 64-bit ARM can't be had (libstd-rust-dev:arm64)")
+        why = "Rust's library for 64-bit ARM is not there (libstd-rust-dev:arm64)"
+        hosts.lack("aarch64: rust", why, packages.are_there)
         return
     crate, made = ROOT / "bindings/rust", hosts.folder / "aarch64-rust"
     words += ["--out-dir", str(made), "-L", str(made), "-L", f"native={library}"]
@@ -111,12 +112,12 @@ def wheel_of(hosts: Hosts, library: pathlib.Path) -> pathlib.Path | None:
     return folder if (folder / "weoldrin").is_dir() else None
 
 
-def test_python_on_arm(hosts: Hosts, library: pathlib.Path, kept: Kept) -> None:
+def test_python_on_arm(hosts: Hosts, library: pathlib.Path, kept: Kept, packages: Packages) -> None:
     """The package of the wheel, by an interpreter for that machine."""
     root = kept["QEMU_LD_PREFIX"]
     python = f"{root}/usr/bin/python3"
     if not succeeds(QEMU, "-L", root, python, "-c", "import cryptography"):
-        hosts.pass_over("aarch64: python", "Python for 64-bit ARM, with cryptography, can't be had")
+        hosts.lack("aarch64: python", "Python for 64-bit ARM, with cryptography, is not there", packages.are_there)
         return
     package = wheel_of(hosts, library)
     if package is None:
@@ -165,6 +166,6 @@ def test(hosts: Hosts) -> None:
     named = os.environ.get("QEMU_LD_PREFIX")
     kept = {"QEMU_LD_PREFIX": named or (str(root) if packages.lay_out(root, OF_ARM) else LIBRARIES)}
     test_go_on_arm(hosts, kept)
-    test_c_on_arm(hosts, library, kept)
+    test_c_on_arm(hosts, library, kept, packages)
     test_rust_on_arm(hosts, library, kept, packages)
-    test_python_on_arm(hosts, library, kept)
+    test_python_on_arm(hosts, library, kept, packages)

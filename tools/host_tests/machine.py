@@ -102,6 +102,25 @@ def has_node() -> bool:
     return found is not None and int(found[1]) >= LEAST_NODE
 
 
+def offered(package: str) -> str | None:
+    """The version of one of Debian's packages that this machine's apt would install; none where it knows of none."""
+    words, kept = ["apt-cache", "policy", package], os.environ | {"LC_ALL": "C"}
+    done = subprocess.run(words, capture_output=True, check=False, env=kept) if shutil.which("apt-cache") else None
+    found = re.search(rb"^  Candidate: (\S+)$", done.stdout, re.M) if done else None
+    return None if found is None or found[1] == b"(none)" else found[1].decode()
+
+
+def offers_node() -> bool:
+    """Whether Debian has a Node for this machine that is new enough: Debian 12 has 18."""
+    found = re.match(r"(?:\d+:)?(\d+)\.", offered("nodejs") or "")
+    return found is not None and int(found[1]) >= LEAST_NODE
+
+
+def has_node_program(name: str) -> bool:
+    """Whether a program is there that comes with Node, where Node is there or can be had."""
+    return bool(shutil.which(name)) or not (has_node() or offers_node())
+
+
 # Debian's packages, and whether what they bring is there.
 NEEDED: dict[str, Callable[[], object]] = {
     "gcc": lambda: compiles() and has_sanitizers() and shutil.which("nm"),
@@ -130,8 +149,11 @@ NEEDED: dict[str, Callable[[], object]] = {
     "binutils": lambda: shutil.which("readelf"),
     "dpkg": lambda: shutil.which("dpkg-deb"),
     # Where Node is too old, none of Debian 12 is newer.
-    "npm": lambda: not has_node() or shutil.which("npm"),
-    "node-typescript": lambda: not has_node() or shutil.which("tsc"),
+    "nodejs": lambda: has_node() or not offers_node(),
+    "npm": lambda: has_node_program("npm"),
+    "node-typescript": lambda: has_node_program("tsc"),
+    "chromium": lambda: shutil.which("chromium"),
+    "firefox-esr": lambda: shutil.which("firefox-esr"),
     "gcc-aarch64-linux-gnu": lambda: shutil.which(CROSS),
     "libc6-dev-arm64-cross": lambda: compiles(compiler=CROSS),
     "qemu-user": lambda: shutil.which(QEMU),

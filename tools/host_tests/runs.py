@@ -68,6 +68,8 @@ class Hosts:
     def __init__(self, library: pathlib.Path, folder: pathlib.Path, is_all: bool) -> None:
         self.library, self.folder, self.is_all = library, folder, is_all
         self.passed = self.failed = self.left_out = 0
+        # The lines of what is not tested here, which are said once more at the end.
+        self.lines: list[str] = []
         # By language what publishes a log, what audits one, and their environment, for the tests between languages.
         self.commands: dict[str, dict[str, object]] = {}
 
@@ -94,12 +96,26 @@ class Hosts:
 
     def leave_out(self, name: str, why: str, count: int = 1) -> None:
         """Says what is not tested here, which is a failure where all has to be."""
-        self.left_out += count
         self.failed += count if self.is_all else 0
-        print(f"{'FAILED, left out' if self.is_all else 'left out'} {name}: {why}", flush=True)
+        self._say(f"{'FAILED, left out' if self.is_all else 'left out'} {name}: {why}", count)
 
     def pass_over(self, name: str, why: str) -> None:
-        """Says what is not tested here, which is no failure whatever has to be there: Debian has no package of it that
-        goes beside the machine's own, or it takes more of a machine than all else here."""
-        self.left_out += 1
-        print(f"left out {name}: {why}", flush=True)
+        """Says what is not tested here, which is no failure whatever has to be there: this machine can't have it."""
+        self._say(f"left out {name}: {why}", 1)
+
+    def lack(self, name: str, why: str, can_be_had: bool) -> None:
+        """Says what is not tested here, which is a failure where all has to be that this machine can have."""
+        if can_be_had:
+            self.leave_out(name, why)
+        else:
+            self.pass_over(name, f"{why}, and can't be had here")
+
+    def _say(self, line: str, count: int) -> None:
+        self.left_out += count
+        self.lines.append(line)
+        print(line, flush=True)
+
+    def told(self) -> str:
+        """The last lines of a run: what is not tested, and the counts."""
+        counts = f"{self.passed} passed, {self.failed} failed, {self.left_out} left out"
+        return "\n".join([*(["-- left out"] if self.lines else []), *self.lines, counts])

@@ -3,6 +3,7 @@ import shutil
 import sys
 
 from common import ROOT
+from host_tests.machine import offered
 from host_tests.runs import Hosts, counted_of_edits, counted_of_unittest
 
 BROWSERS = ("chromium", "firefox-esr")
@@ -13,8 +14,7 @@ def browsers_there(hosts: Hosts, part: str) -> list[str]:
     there = [it for it in BROWSERS if shutil.which(it)]
     for browser in BROWSERS:
         if browser not in there:
-            # No failure: a browser takes more of a machine than all else here.
-            hosts.pass_over(f"{part}: {browser}", "it is not installed")
+            hosts.lack(f"{part}: {browser}", "it is not installed", offered(browser) is not None)
     return there
 
 

@@ -11,12 +11,17 @@ import sys
 import tempfile
 import unittest
 import unittest.mock
+from collections.abc import Callable, Iterator
+from typing import Any
 
 TOOLS = pathlib.Path(__file__).resolve().parents[1]
 sys.path.insert(0, str(TOOLS))
 
 
 HOSTS = runpy.run_path(str(TOOLS / "test_hosts"))
+
+from host_tests import arm, machine, web  # noqa: E402
+from host_tests.debian import Packages  # noqa: E402
 
 OF_CARGO = """
      Running tests/forgeries.rs (target/debug/deps/forgeries-1)
@@ -107,6 +112,102 @@ class Node(unittest.TestCase):
         code = "console.log(parseInt(process.versions.node) >= 20 ? 1 : 0)"
         is_new = subprocess.run([node, "-e", code], capture_output=True, text=True, check=True).stdout == "1\n"
         self.assertEqual(HOSTS["has_node"](), is_new)
+
+
+@contextlib.contextmanager
+def only(**programs: str) -> Iterator[str]:
+    """A machine that has these programs alone, each the body of a script of the shell."""
+    with tempfile.TemporaryDirectory() as folder:
+        for name, body in programs.items():
+            path = pathlib.Path(folder) / name.replace("_", "-")
+            path.write_text(f"#!/bin/sh\n{body}\n", encoding="utf-8")
+            path.chmod(0o755)
+        with unittest.mock.patch.dict(os.environ, {"PATH": folder}):
+            yield folder
+
+
+def policy(candidate: str) -> str:
+    """The body of an apt-cache that has this candidate."""
+    return f"echo 'nodejs:'; echo '  Installed: (none)'; echo '  Candidate: {candidate}'; echo '  Version table:'"
+
+
+class Lacking(unittest.TestCase):
+    """What is left out where the machine lacks something, and whether that is a failure."""
+
+    def _counted(self, test: Callable[[Any], object], is_all: bool = True) -> tuple[int, int, list[str]]:
+        """What failed, what was left out, and the lines of it, where all has to be tested."""
+        with tempfile.TemporaryDirectory() as folder, contextlib.redirect_stdout(io.StringIO()) as said:
+            hosts = HOSTS["Hosts"](HOSTS["RELEASED"], pathlib.Path(folder), is_all)
+            test(hosts)
+        lines = said.getvalue().splitlines()
+        self.assertEqual(hosts.told().splitlines()[1:-1], lines)
+        return hosts.failed, hosts.left_out, lines
+
+    def test_offered(self) -> None:
+        for said, wanted in ((policy("1:2.3-4"), "1:2.3-4"), (policy("(none)"), None), ("exit 0", None)):
+            with only(apt_cache=said):
+                self.assertEqual(machine.offered("it"), wanted)
+        with only():
+            self.assertIsNone(machine.offered("it"))
+
+    def test_node(self) -> None:
+        """A Node that Debian has is a failure where it is missing, and one that Debian has none of is none."""
+        why = "js: Node 20 or later is not installed"
+        for candidate in ("20.19.2+dfsg-1", "1:100.1-2"):
+            with only(apt_cache=policy(candidate)):
+                self.assertEqual(self._counted(HOSTS["test_js"]), (1, 1, [f"FAILED, left out {why}"]))
+                self.assertEqual(self._counted(HOSTS["test_js"], False), (0, 1, [f"left out {why}"]))
+                self.assertFalse(any(machine.NEEDED[it]() for it in ("nodejs", "npm", "node-typescript")))
+        for candidate in ("18.20.4+dfsg-1~deb12u1", "(none)", "2.0"):
+            with only(apt_cache=policy(candidate)):
+                self.assertEqual(self._counted(HOSTS["test_js"]), (0, 1, [f"left out {why}, and can't be had here"]))
+                self.assertTrue(all(machine.NEEDED[it]() for it in ("nodejs", "npm", "node-typescript")))
+
+    def test_browsers(self) -> None:
+        for part in ("web", "registry"):
+            with only(apt_cache=policy("156.0")):
+                lines = [f"FAILED, left out {part}: {it}: it is not installed" for it in web.BROWSERS]
+                self.assertEqual(self._counted(lambda it: web.browsers_there(it, part)), (2, 2, lines))
+            with only(apt_cache=policy("(none)"), firefox_esr=""):
+                lines = [f"left out {part}: chromium: it is not installed, and can't be had here"]
+                self.assertEqual(self._counted(lambda it: web.browsers_there(it, part)), (0, 1, lines))
+
+    def test_missing(self) -> None:
+        """The packages of browsers are among those that are installed."""
+        for there in ((), ("chromium",), web.BROWSERS):
+            with only(**{it.replace("-", "_"): "" for it in there}):
+                self.assertEqual([it for it in web.BROWSERS if machine.NEEDED[it]()], list(there))
+
+    def test_of_arm(self) -> None:
+        """What is fetched for 64-bit ARM is a failure where the mirror answers, and nothing is laid out all the same."""
+        kept = {"QEMU_LD_PREFIX": "/nowhere"}
+        for is_there in (True, False):
+            packages = unittest.mock.create_autospec(Packages, instance=True)
+            packages.are_there, packages.lay_out.return_value = is_there, False
+
+            def test(hosts: Any, packages: Packages = packages) -> None:
+                library = pathlib.Path("/nowhere")
+                arm.test_c_on_arm(hosts, library, kept, packages)
+                arm.test_rust_on_arm(hosts, library, kept, packages)
+                arm.test_python_on_arm(hosts, library, kept, packages)
+
+            with only():
+                failed, left_out, lines = self._counted(test)
+            self.assertEqual((failed, left_out), (3 if is_there else 0, 3))
+            self.assertEqual([it.startswith("FAILED") for it in lines], [is_there] * 3)
+            self.assertEqual([it.endswith("can't be had here") for it in lines], [not is_there] * 3)
+
+    def test_summary(self) -> None:
+        """A run of a part says at its end what it left out, and its status is 1 where that could be had."""
+        for candidate, status in (("156.0", 1), ("(none)", 0)):
+            with only(apt_cache=policy(candidate)):
+                words = [sys.executable, str(TOOLS / "test_hosts"), "--all", "web"]
+                done = subprocess.run(words, capture_output=True, text=True, check=False)
+            self.assertEqual(done.returncode, status, done.stderr)
+            lines = done.stdout.splitlines()
+            self.assertEqual(lines[2], "-- left out")
+            self.assertEqual(lines[3:5], lines[:2])
+            self.assertEqual(lines[5:], [f"0 passed, {2 * status} failed, 2 left out"])
 
 
 class Runs(unittest.TestCase):
