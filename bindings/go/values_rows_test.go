@@ -26,8 +26,8 @@ const (
 
 var contentOfEnvelope = regexp.MustCompile(` content (\S+)`)
 
-// readAs is whether a text can be read, by a call that takes it. Of some faults the library has no name: then the wanted
-// one is taken for it.
+// readAs is whether a text can be read, by a call that takes it. Of some faults the library has no name: then the
+// wanted one is taken for it.
 func readAs(text, wanted string, err error) string {
 	switch {
 	case err == nil || errors.Is(err, weoldrin.ErrUnknownAlgorithm):

@@ -179,7 +179,7 @@ class Lacking(unittest.TestCase):
                 self.assertEqual([it for it in web.BROWSERS if machine.NEEDED[it]()], list(there))
 
     def test_of_arm(self) -> None:
-        """What is fetched for 64-bit ARM is a failure where the mirror answers, and nothing is laid out all the same."""
+        """What is fetched for 64-bit ARM is a failure where the mirror answers, and nothing is laid out then."""
         kept = {"QEMU_LD_PREFIX": "/nowhere"}
         for is_there in (True, False):
             packages = unittest.mock.create_autospec(Packages, instance=True)

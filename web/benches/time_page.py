@@ -1,12 +1,12 @@
-"""Times the page: how long after its load the first verdict stands there, logs of 10,000 records, and what it loads; and
-tells how much memory the browser has.
+"""Times the page: how long after its load the first verdict stands there, logs of 10,000 records, and what it loads.
+Tells how much memory the browser has, too.
 
     python3 web/benches/time_page.py [COUNT]    in each browser that is there, COUNT times (5); WEOLDRIN_BROWSERS names
                                                 those to take
 
 The verdict is that on the example, which is asked for as soon as the page's scripts run. Times are in milliseconds, the
-median and the least; the sizes are those of gzip -9. Memory is that of all the browser's processes, of which a page that
-several share counts in parts (the proportional set size, as Linux has it), less what they have for an empty page.
+median and the least; the sizes are those of gzip -9. Memory is that of all the browser's processes, where what several
+share counts in parts (the proportional set size, as Linux has it), less what they have for an empty page.
 """
 import gzip
 import pathlib

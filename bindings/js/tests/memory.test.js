@@ -21,8 +21,9 @@ const [alice, bob] = await keys();
 const made = await envelopes(4, alice, bob);
 // The library's calls, but for those on trees, that which closes, and that which names a status to who writes C.
 const EXPORTS = WebAssembly.Module.exports((await Library.load()).module).map((it) => it.name);
-const CALLS = EXPORTS.filter((it) => /^warg_(?!registry_|close$|status_name$)/.test(it)).map((it) => it.slice(5)).sort();
-// These take none: what is no envelope is told by its first bytes, and the others give numbers, or a text that is there.
+const IS_TRIED = /^warg_(?!registry_|close$|status_name$)/;
+const CALLS = EXPORTS.filter((it) => IS_TRIED.test(it)).map((it) => it.slice("warg_".length)).sort();
+// These take none: what is no envelope is told by its first bytes, and the others give numbers, or a text of theirs.
 const WITHOUT_MEMORY = ["append_signed what is none", "head_of", "length", "compare", "version"];
 
 /** How much is in use, when what calls were passed and gave is no longer kept. */
