@@ -6,7 +6,7 @@
 - `targets`: the machines that there are packages for
 - `copies`: the files of the repository that packages carry, each a copy in the package's own folder
 - `trees`: what `make install` installs, as a folder of its own
-- `debian`, `archive`: packages for Debian, and the files of a release
+- `debian`, `npm`, `archive`: packages for Debian, the package for npm, and the files of a release
 
 The programs `tools/c_library`, `tools/c_header` and `tools/release` call these.
 """

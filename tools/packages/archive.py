@@ -1,4 +1,5 @@
-"""The files of a release: of each machine a tar file and packages for Debian, and the sums of all."""
+"""The files of a release: of each machine a tar file and packages for Debian, the package for npm, and the sums of all.
+"""
 
 import gzip
 import hashlib
@@ -11,7 +12,7 @@ from typing import IO, cast
 
 from common import PRODUCTS, ROOT
 
-from . import debian, trees, versions
+from . import debian, npm, trees, versions
 from .targets import TARGETS, Target
 
 SUMS = "SHA256SUMS"
@@ -53,6 +54,14 @@ def tar_of(target: Target, folder: pathlib.Path) -> None:
         pack(tree, name, folder / f"{name}.tar.gz")
 
 
+def npm_of(folder: pathlib.Path) -> None:
+    """Writes the package for npm, by the name that `npm pack` gives it."""
+    with tempfile.TemporaryDirectory() as below:
+        tree = pathlib.Path(below)
+        npm.lay_out(tree)
+        pack(tree, "package", folder / f"weoldrin-{versions.of_library()}.tgz")
+
+
 def sums_of(folder: pathlib.Path) -> str:
     """The lines of `sha256sum` of all files of a folder."""
     files = sorted(it for it in folder.iterdir() if it.name != SUMS)
@@ -74,6 +83,10 @@ def write(folder: pathlib.Path) -> int:
             debian.write(target, folder, epoch())
         else:
             print("left out: dpkg-deb, which makes the packages for Debian, is not installed")
+    if npm.is_there():
+        npm_of(folder)
+    else:
+        print("left out: dist/ has no library for npm's package")
     (folder / SUMS).write_text(sums_of(folder), encoding="utf-8")
     print((folder / SUMS).read_text(encoding="utf-8"), end="")
     return 0

@@ -20,7 +20,7 @@ from unittest import mock
 TOOLS = pathlib.Path(__file__).resolve().parents[1]
 sys.path.insert(0, str(TOOLS))
 
-from packages import archive, copies, debian, elf, permissions, trees, versions
+from packages import archive, copies, debian, elf, npm, permissions, trees, versions
 from packages.targets import TARGETS, Target
 
 ROOT = TOOLS.parent
@@ -407,10 +407,23 @@ class Releases(unittest.TestCase):
         for program in (None, "/usr/bin/dpkg-deb"):
             files, said = self.said([target], program)
             name = f"weoldrin-{versions.of_library()}-{target.name}.tar.gz"
-            self.assertEqual(files, ["SHA256SUMS", name])
+            package = f"weoldrin-{versions.of_library()}.tgz"
+            self.assertEqual(files, ["SHA256SUMS", name, package])
             told = ["left out: dpkg-deb, which makes the packages for Debian, is not installed"]
-            self.assertEqual(said[:-1], [] if program else told)
-            self.assertRegex(said[-1], rf"^[0-9a-f]{{64}}  {name}$")
+            self.assertEqual(said[:-2], [] if program else told)
+            for line, file in zip(said[-2:], (name, package), strict=True):
+                self.assertRegex(line, rf"^[0-9a-f]{{64}}  {file}$")
+
+    def test_npm(self) -> None:
+        """The package has what package.json says, with the library of dist/; where that is not there, it is said."""
+        with clean() as root:
+            npm.lay_out(root)
+            self.assertEqual(sorted(it.name for it in root.iterdir()), sorted(npm.names()))
+            self.assertEqual((root / "libwarg.wasm").read_bytes(), npm.LIBRARY.read_bytes())
+            self.assertTrue((root / "src/index.js").is_file())
+        with mock.patch.object(npm, "LIBRARY", ROOT / "dist/nothing"):
+            told = ["left out: dist/ has no library for npm's package"]
+            self.assertEqual(self.said([], None), (["SHA256SUMS"], told))
 
     def test_manifests(self) -> None:
         """Those of what a machine's files are."""

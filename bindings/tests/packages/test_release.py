@@ -3,6 +3,7 @@
 import gzip
 import hashlib
 import pathlib
+import re
 import shutil
 import sys
 import tarfile
@@ -11,11 +12,12 @@ import unittest
 from typing import ClassVar
 
 from installing import HEAD, LOG, MACHINE, ROOT, VERSION, Installing, needs
-from packages import debian, elf, versions
+from packages import debian, elf, npm, versions
 from packages.targets import TARGETS
 
 assert MACHINE
 NAME = f"weoldrin-{VERSION}-{MACHINE.name}"
+NPM = f"weoldrin-{VERSION}.tgz"
 SONAME = versions.soname(VERSION)
 LIBRARY = f"libwarg{versions.binary_version(VERSION)}"
 PROGRAM = """
@@ -61,6 +63,10 @@ class Archive(Release):
         """What there is of each machine, and what is said of one that there is no library for."""
         folder = self.written()
         wanted = {"SHA256SUMS"}
+        if npm.is_there():
+            wanted.add(NPM)
+        else:
+            self.assertIn("left out: dist/ has no library for npm's package\n", Release.printed)
         for target in TARGETS:
             if target.is_there():
                 wanted.add(f"weoldrin-{VERSION}-{target.name}.tar.gz")
@@ -114,14 +120,35 @@ class Archive(Release):
 
     def test_members(self) -> None:
         """Whoever unpacks it, the files are root's, have the modes of a package, and lie in one folder."""
-        with tarfile.open(self.written() / f"{NAME}.tar.gz") as tar:
-            members = tar.getmembers()
-        for it in members:
-            self.assertEqual(it.name.split("/")[0], NAME)
-            self.assertEqual((it.uid, it.gid, it.uname, it.gname, it.mtime), (0, 0, "root", "root", 315532800))
-            is_run = it.isdir() or "/bin/" in it.name
-            self.assertEqual(it.mode, 0o777 if it.issym() else 0o755 if is_run else 0o644, it.name)
-        self.assertEqual([it.name for it in members], sorted(it.name for it in members))
+        folder = self.written()
+        for file, first in ((f"{NAME}.tar.gz", NAME), (NPM, "package")):
+            with tarfile.open(folder / file) as tar:
+                members = tar.getmembers()
+            for it in members:
+                self.assertEqual(it.name.split("/")[0], first)
+                self.assertEqual((it.uid, it.gid, it.uname, it.gname, it.mtime), (0, 0, "root", "root", 315532800))
+                is_run = it.isdir() or "/bin/" in it.name
+                self.assertEqual(it.mode, 0o777 if it.issym() else 0o755 if is_run else 0o644, it.name)
+            self.assertEqual([it.name for it in members], sorted(it.name for it in members))
+
+    @needs("node", "npm")
+    def test_npm(self) -> None:
+        """npm's package has the files that `npm pack` packs, byte for byte, and npm installs it: it audits a log."""
+        packed = self.files_of(self.written() / NPM)
+        sources = self.copied("bindings/js", "js")
+        kept = {"WEOLDRIN_LIBRARY": str(ROOT / "dist/wasm/libwarg.wasm")}
+        npm_words = ["npm", "--silent", "--offline", "--no-update-notifier"]
+        self.said(*npm_words, "pack", sources, env=kept)
+        self.assertEqual(packed, self.files_of(self.folder / NPM))
+        self.said(*npm_words, "install", "--prefix", self.folder / "installed", self.folder / "release" / NPM)
+        weoldrin = self.folder / "installed/node_modules/.bin/weoldrin"
+        self.assertTrue(self.said(weoldrin, "audit", "package", LOG).startswith(f"ok 4 {HEAD}\n"))
+
+    def files_of(self, path: pathlib.Path) -> dict[str, tuple[int, str]]:
+        """The mode and the digest of each file of a package for npm."""
+        with tarfile.open(path) as tar:
+            found = [(it, tar.extractfile(it)) for it in tar.getmembers()]
+        return {it.name: (it.mode, hashlib.sha256(file.read()).hexdigest()) for it, file in found if file}
 
     @needs("cc", "pkg-config")
     def test_unpacked(self) -> None:
@@ -182,6 +209,22 @@ class Debian(Release):
         named = {it: [self.field(it, name) for name in ("Source", "Section", "Priority")] for it in self.files}
         sections = {LIBRARY: "libs", "libwarg-dev": "libdevel", "weoldrin": "utils"}
         self.assertEqual(named, {it: ["weoldrin", section, "optional"] for it, section in sections.items()})
+
+    @needs("readelf")
+    def test_needed(self) -> None:
+        """What the files of a package need, as readelf has it, is glibc alone, of the version that it depends on."""
+        for it, path in self.files.items():
+            self.said("dpkg-deb", "-x", path, self.folder / it)
+            shared = [file for file in (self.folder / it).rglob("*") if debian.is_shared(file)]
+            said = [self.said("readelf", "--wide", "--dynamic", "--version-info", file) for file in shared]
+            self.assertEqual(bool(shared), it != "libwarg-dev")
+            for text in said:
+                self.assertEqual(re.findall(r"\(NEEDED\) .*\[(.*)\]", text), ["libc.so.6"], it)
+            versions_asked = [
+                tuple(map(int, version.split("."))) for text in said for version in re.findall(r"GLIBC_([\d.]+)", text)
+            ]
+            least = re.findall(r"libc6 \(>= ([\d.]+)\)", self.field(it, "Depends"))
+            self.assertEqual(least, [".".join(map(str, max(versions_asked)))] if shared else [])
 
     def test_documents(self) -> None:
         """The licence, in Debian's form, and the change log; and the form that Debian's own tools unpack."""
