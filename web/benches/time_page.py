@@ -100,7 +100,7 @@ def memory_of(browser: Browser) -> float:
 
 def tell_memory(browser: Browser, address: str, path: pathlib.Path) -> None:
     """Tells what the browser has with the verdict on the example, and on a log, more than with an empty page."""
-    browser.open("about:blank")
+    browser.open("data:text/html,empty")
     before = memory_of(browser)
     for name in ("example", path.name):
         browser.open(address)
