@@ -127,7 +127,8 @@ class Archive(Release):
             for it in members:
                 self.assertEqual(it.name.split("/")[0], first)
                 self.assertEqual((it.uid, it.gid, it.uname, it.gname, it.mtime), (0, 0, "root", "root", 315532800))
-                is_run = it.isdir() or "/bin/" in it.name
+                # The module is a file that may be run in dist/ too.
+                is_run = it.isdir() or "/bin/" in it.name or it.name.endswith(".wasm")
                 self.assertEqual(it.mode, 0o777 if it.issym() else 0o755 if is_run else 0o644, it.name)
             self.assertEqual([it.name for it in members], sorted(it.name for it in members))
 
@@ -148,7 +149,7 @@ class Archive(Release):
         """The mode and the digest of each file of a package for npm."""
         with tarfile.open(path) as tar:
             found = [(it, tar.extractfile(it)) for it in tar.getmembers()]
-        return {it.name: (it.mode, hashlib.sha256(file.read()).hexdigest()) for it, file in found if file}
+            return {it.name: (it.mode, hashlib.sha256(file.read()).hexdigest()) for it, file in found if file}
 
     @needs("cc", "pkg-config")
     def test_unpacked(self) -> None:
