@@ -2,21 +2,17 @@
 is changed on the way is told.
 """
 
-import contextlib
-import http.client
-import http.server
 import json
 import pathlib
 import sys
 import tempfile
-import threading
 import unittest
 import urllib.request
-from collections.abc import Callable
 from typing import Any
 
 from weoldrin import PackageLog, log_id, records
 
+from .relay import Lie, Relay, no_lie
 from .served import REPOSITORY, Client, Key, Process, begin, checkpoint_of, new_key, next_record, release
 
 sys.path.insert(0, str(REPOSITORY / "web/tests"))
@@ -28,45 +24,6 @@ NAME, OTHER = "acme:math", "acme:text"
 RECORDS = 4
 LOG, OPERATORS = f"/v1/package/{NAME}/records", "/v1/operator/records"
 HOLDS, HOLDS_NOT = "The proof holds", "The proof does not hold."
-# What becomes of the body of an answer, by the address.
-Lie = Callable[[str, bytes], bytes]
-
-
-class Relay(http.server.ThreadingHTTPServer):
-    """Hands on what a registry answers, with a lie."""
-
-    daemon_threads = True
-
-    def __init__(self, port: int) -> None:
-        super().__init__(("127.0.0.1", 0), _Handler)
-        self.of = port
-        self.lie: Lie = _nothing
-        self.address = f"http://127.0.0.1:{self.server_address[1]}"
-
-
-def _nothing(_: str, body: bytes) -> bytes:
-    return body
-
-
-class _Handler(http.server.BaseHTTPRequestHandler):
-    def do_GET(self) -> None:
-        """Asks the registry the same, and hands the answer on."""
-        relay = self.server
-        assert isinstance(relay, Relay)
-        with contextlib.closing(http.client.HTTPConnection("127.0.0.1", relay.of, timeout=60)) as connection:
-            connection.request("GET", self.path)
-            response = connection.getresponse()
-            body = relay.lie(self.path, response.read())
-        self.send_response(response.status)
-        for name in ("Content-Type", "Location", "X-Content-Type-Options"):
-            if name in response.headers:
-                self.send_header(name, response.headers[name])
-        self.send_header("Content-Length", str(len(body)))
-        self.end_headers()
-        self.wfile.write(body)
-
-    def log_message(self, *_: object) -> None:
-        """Says nothing."""
 
 
 class OnServer(PageTests):
@@ -97,11 +54,7 @@ class OnServer(PageTests):
             cls.head = cls._publish(name, count)
         cls.checkpoint = checkpoint_of(cls.client, RECORDS + 3)
         cls.relay = Relay(cls.process.port)
-        cls.addClassCleanup(cls.relay.server_close)
-        thread = threading.Thread(target=cls.relay.serve_forever, args=(0.02,), daemon=True)
-        thread.start()
-        cls.addClassCleanup(thread.join)
-        cls.addClassCleanup(cls.relay.shutdown)
+        cls.addClassCleanup(cls.relay.end)
 
     @classmethod
     def tearDownClass(cls) -> None:
@@ -121,7 +74,7 @@ class OnServer(PageTests):
 
     def setUp(self) -> None:
         self.browser.resize(1000, 900)
-        self.relay.lie = _nothing
+        self.relay.lie = no_lie
         self.address = f"http://127.0.0.1:{self.process.port}"
         self.opened(f"{self.address}/")
 
