@@ -44,17 +44,23 @@ class Server:
         """Starts it, on the data that it has."""
         options = ["-k", self._folder.name, "-c", "listen_addresses=", "-c", "max_connections=200", *self._options]
         words = [*self._as_user, str(BINARIES[-1].with_name("postgres")), "-D", str(self.data), *options]
-        self.process = subprocess.Popen(words, stderr=subprocess.DEVNULL, cwd="/")
-        for _ in range(300):
-            if self.data.with_name(".s.PGSQL.5432").exists():
+        listening = self.data.with_name(".s.PGSQL.5432")
+        # One that was killed leaves it behind.
+        listening.unlink(missing_ok=True)
+        for _ in range(600):
+            # It ends where processes of one that was killed have not ended yet.
+            if self.process is None or self.process.poll() is not None:
+                self.process = subprocess.Popen(words, stderr=subprocess.DEVNULL, cwd="/")
+            if listening.exists():
                 return
             time.sleep(0.1)
         raise RuntimeError("PostgreSQL did not start")
 
-    def end(self) -> None:
-        """Ends it. It does not wait for those that are connected."""
+    def end(self, number: int = signal.SIGINT) -> None:
+        """Ends it by a signal. By this one it does not wait for those that are connected; by SIGQUIT it breaks off at
+        once, and by SIGKILL so does the one process of it that the others see end."""
         if self.process is not None:
-            self.process.send_signal(signal.SIGINT)
+            self.process.send_signal(number)
             self.process.wait(60)
 
     def stop(self) -> None:

@@ -136,7 +136,7 @@ class Process:
 
     def _end(self, number: int) -> int:
         self._process.send_signal(number)
-        status = self._process.wait(60)
+        status = self._process.wait(120)
         assert self._process.stdout
         self._process.stdout.close()
         return status

@@ -1,5 +1,7 @@
 """The tests of storage, and of kills, over PostgreSQL, where it is installed."""
 
+import random
+import signal
 import threading
 import time
 import unittest
@@ -115,9 +117,45 @@ class ProcessesOnPostgres(OnPostgres, Processes):
 
 
 class KilledOnPostgres(OnPostgres, Killed):
-    """Registries that are killed."""
+    """Two registries of one database, one of which is killed, and at times both."""
 
-    KILLS = min(Killed.KILLS, 3)
+    SERVERS = 2
+
+    def _check(self) -> None:
+        super()._check()
+        check_indexes(self.database)
+
+
+class PostgresKilled(Killed):
+    """PostgreSQL itself is killed under two registries, and started again."""
+
+    KILLS, SERVERS, MAY_FAIL = max(3, Killed.KILLS // 6), 2, True
+
+    def setUp(self) -> None:
+        super().setUp()
+        self.server = Server()
+        self.addCleanup(self.server.stop)
+        self.server.begin()
+        self.database = self.server.database()
+
+    def _kill(self, chosen: random.Random) -> None:
+        self.server.end(chosen.choice((signal.SIGKILL, signal.SIGQUIT)))
+        self.server.start()
+        self.killed += 1
+
+    def _check(self) -> None:
+        super()._check()
+        check_indexes(self.database)
+
+
+def check_indexes(database: str) -> None:
+    """Raises where the leaves' indexes have gaps, or are not as many as are counted."""
+    import psycopg
+
+    query = "SELECT min(leaf), max(leaf) + 1, count(*), (SELECT length FROM registry) FROM leaves"
+    with psycopg.connect(database) as connection:
+        first, end, count, length = connection.execute(query).fetchall()[0]
+    assert (first, end, count) == (0, length, length), (first, end, count, length)
 
 
 # They are tested where they stand.

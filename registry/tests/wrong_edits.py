@@ -141,6 +141,12 @@ WRONG: dict[str, Wrong] = {
     "a connection that was ended is used": (
         "storage/postgres.py", "        if waiting.poll(0):\n", "        if False:\n",
         "test_postgres.WritersOnPostgres.test_a_connection_that_breaks"),
+    "a record of PostgreSQL is kept by parts": (
+        "storage/postgres.py", "with self._connected() as connection, connection.transaction():",
+        "with self._connected() as connection:", "test_postgres.KilledOnPostgres"),
+    "PostgreSQL is not waited for": (
+        "storage/postgres.py", "SET synchronous_commit = on", "SET synchronous_commit = off",
+        "test_postgres.PostgresKilled"),
     "an older state follows": (
         "storage/sqlite.py", " WHERE excluded.count > states.count", "",
         f"{STATES}.test_an_older_state_does_not_follow_a_later_one"),
@@ -353,7 +359,9 @@ def seen_by(wrong: Wrong) -> str:
             raise SystemExit(f"{file} has no {old!r}")
         (folder / file).write_text(text.replace(old, new, 1), encoding="utf-8")
         paths = [name, *filter(None, [os.environ.get("PYTHONPATH")])]
-        found = os.environ | {"PYTHONPATH": ":".join(paths), "PYTHONDONTWRITEBYTECODE": "1"}
+        # What kills see, a few of them see.
+        found = {"WEOLDRIN_KILLS": "6"} | os.environ
+        found |= {"PYTHONPATH": ":".join(paths), "PYTHONDONTWRITEBYTECODE": "1"}
         words = [sys.executable, "-m", "unittest", f"tests.{test}"]
         try:
             done = subprocess.run(words, cwd=FOLDER, env=found, capture_output=True, timeout=PATIENCE, check=False)
