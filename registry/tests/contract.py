@@ -3,6 +3,7 @@
 import json
 import pathlib
 import re
+import urllib.parse
 from collections.abc import Mapping
 from typing import Any
 
@@ -14,6 +15,13 @@ DOCUMENT = pathlib.Path(__file__).resolve().parent.parent / "openapi.yaml"
 
 class NotAsSaid(AssertionError):
     """An answer is not as the contract says."""
+
+
+def _parts_of(path: str, target: str) -> dict[str, str] | None:
+    """The parameters in an address that is of a path; none where it is not."""
+    part = r"(?P<\1>.+)" if path.startswith("/static/") else r"(?P<\1>[^/]+)"
+    found = re.fullmatch(re.sub(r"\{(\w+)\}", part, path), target.partition("?")[0])
+    return {name: urllib.parse.unquote(value) for name, value in found.groupdict().items()} if found else None
 
 
 class Contract:
@@ -30,8 +38,10 @@ class Contract:
             # An address that is none has a document all the same.
             found = self.document["components"]["responses"]["Problem"]
         else:
-            responses = self.document["paths"][path].get(method.lower().replace("head", "get"), {}).get("responses")
-            responses = responses or {"default": {"$ref": "#/components/responses/Problem"}}
+            none = {"responses": {"default": {"$ref": "#/components/responses/Problem"}}}
+            operation = self.document["paths"][path].get(method.lower().replace("head", "get"), none)
+            self._check_asked(f"{method} {target}", self._fault_of(path, operation, target), status, body)
+            responses = operation["responses"]
             said = str(status) if str(status) in responses else "default"
             if said == "default" and status < 400:
                 raise NotAsSaid(f"{method} {target}: {status} is not said")
@@ -49,12 +59,38 @@ class Contract:
 
     def path_of(self, target: str) -> str | None:
         """The path of the contract that an address is of."""
-        path = target.partition("?")[0]
-        for it in self.document["paths"]:
-            last = ".+" if it.startswith("/static/") else "[^/]+"
-            if re.fullmatch(re.sub(r"\{\w+\}", last, it), path):
-                return str(it)
-        return None
+        return next((it for it in self.document["paths"] if _parts_of(it, target) is not None), None)
+
+    @staticmethod
+    def _check_asked(asked: str, fault: str, status: int, body: bytes) -> None:
+        """A request whose parameters are others than is said is refused, and for its query no other one is."""
+        if fault and status < 400:
+            raise NotAsSaid(f"{asked} is answered with {status}: {fault}")
+        if not fault and status == 400 and json.loads(body or b"{}").get("name") == "BadQuery":
+            raise NotAsSaid(f"{asked} is refused for its query, which is as is said")
+
+    def _fault_of(self, path: str, operation: dict[str, Any], target: str) -> str:
+        """What of a request's parameters is not as is said; nothing where all is."""
+        query = target.partition("?")[2]
+        given = [(("path", name), value) for name, value in (_parts_of(path, target) or {}).items()]
+        try:
+            pairs = urllib.parse.parse_qsl(query, True, bool(query), errors="strict")
+        except ValueError:
+            return "its query can't be read"
+        given += [(("query", name), value) for name, value in pairs]
+        said = {(it["in"], it["name"]): it for it in map(self._resolved, operation.get("parameters", []))}
+        if len(dict(given)) < len(given) or not dict(given).keys() <= said.keys():
+            return "a parameter is none, or stands twice"
+        if not {it for it, parameter in said.items() if parameter.get("required")} <= dict(given).keys():
+            return "a parameter is missing"
+        try:
+            for it, value in given:
+                schema = self._resolved(said[it]["schema"])
+                is_number = schema["type"] == "integer" and re.fullmatch("[0-9]{1,19}", value)
+                self._validate(schema, int(value) if is_number else value)
+        except NotAsSaid as error:
+            return str(error)
+        return ""
 
     def _resolved(self, it: dict[str, Any]) -> dict[str, Any]:
         while "$ref" in it:
