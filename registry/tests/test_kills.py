@@ -29,7 +29,7 @@ PUBLISHERS = 4
 # A lock is waited for as long as a busy machine may take.
 SETTINGS = "checkpoint_seconds = 0.05\nstate_records = 8\nlock_seconds = 60\n"
 # So long something may take on a busy machine.
-PATIENCE = 120
+PATIENCE = 300
 # A log that two of them share, so that each is overtaken by the other.
 SHARED = "shared:log"
 
