@@ -1,6 +1,7 @@
 """`weoldrin monitor` and `weoldrin gossip`: an honest registry is followed, and each lie is told once, by its name."""
 
 import contextlib
+import dataclasses
 import importlib.util
 import json
 import pathlib
@@ -457,17 +458,44 @@ class Gossip(MonitorTest):
             split.release(ONE, "4.0.0")
             longer = split.sign()
             pathlib.Path(self.left).unlink()
-            run("monitor", other.url, "--database", self.left, "--once")
-        for words in ((self.database, self.left), (self.left, self.database)):
-            status, told = self._compared(*words, "--registry", self.served.url)
-            assert isinstance(told, dict)
-            self.assertEqual((status, told["name"]), (1, "rolled back registry"))
+            saw = str(self.folder / "longer")
+            run("monitor", other.url, "--database", self.left, "--once", "--saw", saw)
+        # A registry that is shorter proves nothing of the longer log, but the leaves that a monitor read may.
+        evidence = {"forked registry": (left, longer), "rolled back registry": (longer, left)}
+        for file, name in ((self.left, "forked registry"), (saw, "rolled back registry")):
+            for words in ((self.database, file), (file, self.database)):
+                status, told = self._compared(*words, "--registry", self.served.url)
+                assert isinstance(told, dict)
+                self.assertEqual((status, told["name"]), (1, name))
+                self.assertEqual(told["evidence"], [json.loads(it.to_json()) for it in evidence[name]])
         self.registry.release(TWO, "4.0.0")
         newest = self.registry.sign()
         status, told = self._compared(self.database, self.left, "--registry", self.served.url)
         assert isinstance(told, dict)
         self.assertEqual((status, told["name"]), (1, "forked registry"))
         self.assertEqual(told["evidence"], [json.loads(it.to_json()) for it in (longer, newest)])
+
+    def test_rolled_back(self) -> None:
+        """Leaves that go on from the shorter view show no fork, nor do such as were not signed."""
+        older, other = self.registry.copy(), records.sha256_text(b"other")
+        self.registry.release(ONE, "2.0.0")
+        newest = self.registry.sign()
+        self.monitor()
+        longer = dataclasses.replace(newest.contents, log_length=14)
+        signature = self.registry.alice.sign(longer.message())
+        text = dataclasses.replace(newest, contents=longer, signature=signature).to_json()
+        self.served.registry = older
+        seen = pathlib.Path(self.database).read_bytes()
+        spoiled = f"UPDATE leaves SET record = '{other}' WHERE place = 3", "UPDATE leaves SET record = 'none'"
+        # The checkpoint is signed, and of more leaves than its root is of.
+        for change in ("SELECT 1", f"INSERT INTO checkpoints VALUES (14, '{text}')", *spoiled, "DELETE FROM leaves"):
+            with self.subTest(change):
+                pathlib.Path(self.database).write_bytes(seen)
+                with contextlib.closing(sqlite3.connect(self.database)) as file, file:
+                    file.execute(change)
+                status, told = self._compared(self.left, self.database)
+                assert isinstance(told, dict)
+                self.assertEqual((status, told["name"]), (1, "rolled back registry"))
 
     def test_unsigned(self) -> None:
         """A monitor can't accuse a registry by what that did not sign."""

@@ -218,6 +218,22 @@ WRONG: dict[str, Wrong] = {
     "gossip takes what is not shown": (
         "registry/gossip.py", "if compared(old.contents, new.contents, proof) not in GOING_ON:", "if False:",
         f"{MONITOR}.Gossip.test_fork"),
+    "gossip does not look at leaves": (
+        "registry/gossip.py", "if not longer.has_leaves:", "if True:", f"{MONITOR}.Gossip.test_fork"),
+    "gossip looks at leaves that a view has not": (
+        "registry/gossip.py", "if not longer.has_leaves:", "if False:", f"{MONITOR}.Gossip.test_fork"),
+    "gossip takes leaves that were not signed": (
+        "registry/gossip.py", "if (len(trees), trees.log_root()) != (new.contents.log_length, new.contents.log_root):",
+        "if len(trees) != new.contents.log_length:", f"{MONITOR}.Gossip.test_rolled_back"),
+    "gossip takes fewer leaves than were signed": (
+        "registry/gossip.py", "if (len(trees), trees.log_root()) != (new.contents.log_length, new.contents.log_root):",
+        "if trees.log_root() != new.contents.log_root:", f"{MONITOR}.Gossip.test_rolled_back"),
+    "gossip fails of leaves that are none": (
+        "registry/gossip.py", "    except BadArgument:\n        return\n    with",
+        "    except MemoryError:\n        return\n    with", f"{MONITOR}.Gossip.test_rolled_back"),
+    "leaves that go on are a fork": (
+        "registry/gossip.py", "if compared(old.contents, new.contents, proof) is CheckpointComparison.GOES_ON:",
+        "if False:", f"{MONITOR}.Gossip.test_rolled_back"),
     "a leaf may be denied": (
         "registry/packages.py", "if place is None or not before", "if place is not None and not before",
         f"{CLIENT}.Lies.test_at_first"),

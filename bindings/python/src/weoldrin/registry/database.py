@@ -255,5 +255,15 @@ def sight_in(path: str) -> tuple[list[str], str | None, str | None]:
     return texts, kept.get("trust"), kept.get("url")
 
 
+def leaves_in(path: str, most: int) -> Iterator[Leaf]:
+    """The first leaves that a monitor's file has, which may be in use."""
+    try:
+        with contextlib.closing(sqlite3.connect(f"file:{_quoted(path)}?mode=ro", uri=True, timeout=30)) as file:
+            for log, record in file.execute("SELECT log, record FROM leaves ORDER BY place LIMIT ?", (most,)):
+                yield Leaf(str(log), str(record))
+    except sqlite3.Error as error:
+        raise _failed(path, error) from None
+
+
 def _quoted(path: str) -> str:
     return urllib.parse.quote(os.path.abspath(path))

@@ -1,5 +1,6 @@
 """`weoldrin gossip A B`: compares the checkpoints that two monitors saw. Two signed ones of one length with other
-roots, and one that the registry's newest is not shown to go on from, are the evidence of a fork."""
+roots, and one that the registry's newest, or the leaves that the other monitor read, are not shown to go on from, are
+the evidence of a fork."""
 
 import argparse
 from typing import NamedTuple
@@ -9,11 +10,12 @@ from ..errors import BadArgument, UnknownAlgorithm
 from ..logs import OperatorLog
 from ..printing import print_lines, tell
 from ..signatures import verify
+from ..trees import RegistryTrees, saved_leaves
 from ..values import CheckpointComparison
 from . import asking
 from . import trust as trusted
 from .answers import Problem, checkpoint_in
-from .database import sight_in
+from .database import leaves_in, sight_in
 from .fetch import opened
 from .following import GOING_ON, NOT_THERE, Follower, compared, denied, is_signed
 from .told import BadAnswer, Told, Unusable
@@ -32,6 +34,8 @@ class Sight(NamedTuple):
     trust: Trust | None
     url: str | None
     """That of the registry, where it is known."""
+    has_leaves: bool = False
+    """Whether it is a monitor's file, which has the leaves that were read."""
 
     @property
     def newest(self) -> SignedCheckpoint:
@@ -56,7 +60,8 @@ def sight_of(name: str, seconds: float) -> Sight:
     texts, trust, url = sight_in(name)
     sight = _sight_of_lines(name, "\n".join(texts).encode())
     try:
-        return sight._replace(trust=None if trust is None else Trust.from_json(trust), url=url)
+        trusting = None if trust is None else Trust.from_json(trust)
+        return sight._replace(trust=trusting, url=url, has_leaves=True)
     except ValueError:
         raise Unusable(f"{name}: what is trusted in it is spoiled") from None
 
@@ -106,6 +111,26 @@ def compare(operator: OperatorLog, left: Sight, right: Sight) -> int:
     return len(common)
 
 
+def _check_leaves(shorter: Sight, longer: Sight) -> None:
+    """Raises `Told` where the leaves that the monitor of the longer view read are those that it saw signed, and do not
+    go on from the shorter one. A view without leaves shows nothing, nor do others than were signed."""
+    old, new = shorter.newest, longer.newest
+    if not longer.has_leaves:
+        return
+    try:
+        saved = saved_leaves(leaves_in(longer.name, new.contents.log_length))
+    except BadArgument:
+        return
+    with RegistryTrees.from_bytes(saved) as trees:
+        if (len(trees), trees.log_root()) != (new.contents.log_length, new.contents.log_root):
+            return
+        proof = trees.consistency(old.contents.log_length)
+    if compared(old.contents, new.contents, proof) is CheckpointComparison.GOES_ON:
+        return
+    why = f"the log of {new.contents.log_length} leaves, which {longer.name} read, does not go on from that of"
+    raise Told("forked registry", f"{why} {old.contents.log_length}, which {shorter.name} saw", old, new)
+
+
 def _check_shown(follower: Follower, sight: Sight) -> None:
     """Raises `Told` where the registry does not show that its newest log goes on from that of a checkpoint."""
     old, length = sight.newest, sight.newest.contents.log_length
@@ -145,7 +170,14 @@ def run(asked: argparse.Namespace) -> int:
             tell("weoldrin: the lengths differ, and no registry is named that could prove anything of them")
             raise Unusable("name the registry by --registry URL")
         follower = follower or opened(asked, trust)
-        for sight in (left, right):
-            _check_shown(follower, sight)
+        shorter, longer = sorted((left, right), key=lambda it: it.newest.contents.log_length)
+        try:
+            for sight in (left, right):
+                _check_shown(follower, sight)
+        except Told as told:
+            # A registry that is shorter proves nothing of the longer log, whose leaves may show more.
+            if told.name == "rolled back registry":
+                _check_leaves(shorter, longer)
+            raise
     print_lines([f"one view {lengths[0]} {lengths[1]} common {common}"])
     return 0
