@@ -112,7 +112,7 @@ class Killed(unittest.TestCase):
         self.key, self.keys = new_key(self.folder), [Key.generate() for _ in range(PUBLISHERS)]
         self.has_ended, self.seen, self.killed = threading.Event(), list[SignedCheckpoint](), 0
         self.processes: list[Process] = []
-        self.addCleanup(lambda: [it.kill() for it in self.processes])
+        self.addCleanup(self._end)
         self.publishers = [Publisher(it, self) for it in range(PUBLISHERS)]
 
     def port_of(self, number: int) -> int:
@@ -125,7 +125,6 @@ class Killed(unittest.TestCase):
         client = self.processes[0].client()
         begin(client, self.key)
         client.close()
-        self.addCleanup(self.has_ended.set)
         for it in self.publishers:
             it.start()
         until = time.monotonic() + SECONDS
@@ -143,6 +142,12 @@ class Killed(unittest.TestCase):
         # Later versions of uvicorn end by the signal.
         for process in self.processes:
             self.assertIn(process.stop(), (0, -signal.SIGTERM))
+
+    def _end(self) -> None:
+        """Ends what a test that failed has left."""
+        self.has_ended.set()
+        for it in self.processes:
+            it.kill()
 
     def _begun(self) -> Process:
         return Process(self.folder, settings=SETTINGS, database=self.database)

@@ -19,7 +19,7 @@ from weoldrin import Checkpoint, PackageLog, RegistryTrees, SignedCheckpoint, lo
 from weoldrin.registry import command
 
 from .relay import Lie, Relay, no_lie
-from .served import Key, Process, checkpoint_of, new_key, next_record, operator_record, release
+from .served import Client, Key, Process, checkpoint_of, new_key, next_record, operator_record, release
 
 OPERATOR = log_id("operator")
 DAY = 86_400
@@ -100,6 +100,13 @@ def both(first: Lie, second: Lie) -> Lie:
 
 class Lies(unittest.TestCase):
     """A registry of packages behind a relay, a monitor of it, and a client."""
+
+    folder: pathlib.Path
+    key: Key
+    bob: Key
+    process: Process
+    client: Client
+    relay: Relay
 
     @classmethod
     def setUpClass(cls) -> None:
