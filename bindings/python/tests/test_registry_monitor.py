@@ -481,14 +481,14 @@ class Gossip(MonitorTest):
         self.registry.release(ONE, "2.0.0")
         newest = self.registry.sign()
         self.monitor()
-        longer = dataclasses.replace(newest.contents, log_length=14)
+        longer = dataclasses.replace(newest.contents, log_length=20)
         signature = self.registry.alice.sign(longer.message())
         text = dataclasses.replace(newest, contents=longer, signature=signature).to_json()
         self.served.registry = older
         seen = pathlib.Path(self.database).read_bytes()
         spoiled = f"UPDATE leaves SET record = '{other}' WHERE place = 3", "UPDATE leaves SET record = 'none'"
         # The checkpoint is signed, and of more leaves than its root is of.
-        for change in ("SELECT 1", f"INSERT INTO checkpoints VALUES (14, '{text}')", *spoiled, "DELETE FROM leaves"):
+        for change in ("SELECT 1", f"INSERT INTO checkpoints VALUES (20, '{text}')", *spoiled, "DELETE FROM leaves"):
             with self.subTest(change):
                 pathlib.Path(self.database).write_bytes(seen)
                 with contextlib.closing(sqlite3.connect(self.database)) as file, file:
