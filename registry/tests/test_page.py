@@ -202,6 +202,64 @@ class OnServer(PageTests):
         self.assertIn(HOLDS_NOT, self.proof(path, "absence", log_name=NAME))
         self.assertIn(HOLDS_NOT, self.proof(path, "head", log_name=NAME, record_id=self.head))
 
+    def verified(self, name: str) -> str:
+        """Has the registry that serves the page be asked for a package by its name alone, and gives what is said."""
+        self.browser.wait("at('verify').nextElementSibling === at('open')")
+        self.assertFalse(self.browser.run("return at('other').open || at('registry').required"))
+        self.browser.run("performance.clearMarks('weoldrin-verified')")
+        self.browser.run(f"at('package').value = {json.dumps(name)}; at('verify-form').requestSubmit()")
+        self.browser.wait("performance.getEntriesByName('weoldrin-verified').length")
+        return self.text("#verify-said")
+
+    def lines_of(self, its_id: str) -> list[bytes]:
+        """The lines of a log, by a connection of its own: the client's is ended where the browser takes its time."""
+        with urllib.request.urlopen(f"{self.address}/v1/logs/{its_id}/records", timeout=60) as answer:
+            return list(answer)
+
+    def test_package(self) -> None:
+        leaves = f"under a signed checkpoint of {RECORDS + 3} leaves"
+        self.assertEqual(self.verified(NAME), f"Verified: {NAME} has {RECORDS} records {leaves}.")
+        self.assertEqual(self.looks(), ["good"])
+        self.assertIn(f"Its last record is {self.head}", self.text("#verdicts"))
+        self.assertIn("3.0.0", self.tab("releases", "tbody tr"))
+        # The key that began the operator log is the one that signs here.
+        self.assertIn(self.checkpoint["keyId"], self.text("#operator-key"))
+        self.assertIn("Absent: the registry has no log of acme:none, by a", self.verified("acme:none"))
+        self.assertIn("This browser saw the same key before.", self.text("#operator-key"))
+        self.assertIn("that this browser saw before", self.text("#steps"))
+        self.assertIn("Not verified. no name: ", self.verified("acme"))
+        self.assertEqual(self.looks(), ["good"])
+
+    def test_package_of_a_liar(self) -> None:
+        its_id, other = log_id("package", NAME), log_id("package", OTHER)
+        records_of = f"/v1/logs/{its_id}/records"
+        lines, others = self.lines_of(its_id), self.lines_of(other)
+        contents = self.checkpoint["contents"]
+        unsigned = {**self.checkpoint, "contents": {**contents, "timestamp": contents["timestamp"] + 1}}
+        absent = self.asked(f"/v1/proof/map?log={log_id('package', 'acme:none')}")
+
+        def served(*pages: bytes) -> Lie:
+            of_pages = dict(zip(("0", str(len(pages[0].split()))), (*pages, b"")))
+            return lambda path, body: of_pages.get(path.rpartition("=")[2], b"") if records_of in path else body
+
+        def with_members(part: str, **members: object) -> Lie:
+            return lambda path, body: json.dumps({**json.loads(body), **members}).encode() if part in path else body
+
+        lies: list[tuple[str, Lie]] = [
+            ("wrong name", served(b"".join(others))),
+            ("rolled back log", served(b"".join(lines[:-1]))),
+            ("unlawful record", served(b"".join([*lines[:2], lines[3]]))),
+            ("missing record", served(b"")),
+            ("unsigned checkpoint", with_members("/v1/proof/map", checkpoint=unsigned)),
+            ("false proof", with_members(f"map?log={its_id}", recordId=None, proof=absent["proof"])),
+            ("bad answer", lambda path, body: b"<html>" if "/v1/leaf" in path else body),
+        ]
+        for word, lie in lies:
+            self.lied(lie)
+            self.assertIn(f"Not verified. {word}: ", self.verified(NAME))
+            self.assertEqual(self.looks(), [])
+            self.assertNotIn("Verified:", self.text("body"))
+
 
 load_tests = in_each(OnServer)
 

@@ -31,16 +31,16 @@ function nameOf(address) {
   return last === "" ? address.host : last;
 }
 
-/** The bytes of an answer, of which no more are read than a log may have, and one. */
-async function bytesOf(response) {
+/** The bytes of an answer, or null where there are more than so many, of which no more is read. */
+export async function bytesOf(response, most = MOST) {
   const parts = [];
   let size = 0;
-  for (const reader = response.body.getReader(); size <= MOST; ) {
+  for (const reader = response.body.getReader(); size <= most; ) {
     const { done, value } = await reader.read();
     if (done) return new Blob(parts).arrayBuffer();
     parts.push(value);
     size += value.length;
-    if (size > MOST) await reader.cancel();
+    if (size > most) await reader.cancel();
   }
   return null;
 }

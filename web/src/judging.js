@@ -26,8 +26,19 @@ export function pause() {
 /** Whether this page has WebCrypto. */
 export const hasWebCrypto = () => globalThis.crypto?.subtle !== undefined;
 
+/** What lets others be heard where a turn has ended, and then says how far it is. */
+export function turns(heard) {
+  let last = performance.now();
+  return async (...words) => {
+    if (performance.now() - last <= TURN) return;
+    heard(...words);
+    await pause();
+    last = performance.now();
+  };
+}
+
 /** What verifies a question's signature: P-256, and the toy scheme where it is asked for. */
-function verifierOf(library, toy) {
+export function verifierOf(library, toy) {
   const byLibrary = (question) => p256.verify(question, { library });
   const verifyP256 = hasWebCrypto() ? p256.verifyByWebCrypto : byLibrary;
   return (question) => {
@@ -82,15 +93,11 @@ export async function judge(bytes, { kind: asked, toy, library }, heard) {
   const kind = asked === "any" ? ((await kindOf(library, envelopes[0])) ?? KINDS[0]) : asked;
   const log = await logOf(kind, { library });
   const verify = verifierOf(library, toy);
-  let [last, place, toys] = [performance.now(), 0, 0];
+  const turn = turns(heard);
+  let [place, toys] = [0, 0];
   const counted = async (question) => {
-    place++;
     if (schemeOf(question) === "toy") toys++;
-    if (performance.now() - last > TURN) {
-      heard(place - 1, envelopes.length);
-      await pause();
-      last = performance.now();
-    }
+    await turn(place++, envelopes.length);
     return verify(question);
   };
   try {

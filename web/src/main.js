@@ -7,6 +7,7 @@ import { at, fill, quoted } from "./dom.js";
 import { chosen, dropped, fetched } from "./files.js";
 import { showPanels } from "./panels.js";
 import { proofs, proveOn } from "./proofs.js";
+import { registry } from "./registry.js";
 import { Fault, Thread, part } from "./thread.js";
 import { cardOf, sentenceOf, tellProgress } from "./verdicts.js";
 
@@ -33,6 +34,7 @@ const isCheckpoint = ({ found }) => found?.kind === "checkpoint";
 const isLog = (log) => log.found && !isCheckpoint(log);
 const tellCompared = comparing(thread, () => logs.filter(isLog));
 proofs(thread, () => shown);
+registry(thread, { add, numbered: () => numbers++ });
 
 /** What the page's own parts ask: a fault is told, and nothing is shown in its place. */
 const asking = (ask, words) =>
@@ -109,6 +111,14 @@ function list() {
   );
   fill(at("verdicts"), ...cards);
   if (ofCard !== undefined) refocused(ofCard, had.textContent);
+}
+
+/** Takes a log up that was verified down to a registry's checkpoint, and shows it. */
+function add(log) {
+  logs.push(log);
+  told(sentenceOf(log));
+  show(log);
+  tellCompared();
 }
 
 /** Judges a log, and shows its verdict once the answer on the whole file is there. */

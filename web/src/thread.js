@@ -56,10 +56,10 @@ export class Thread {
   }
 
   /**
-   * Asks a question: a word, and what belongs to it. `heard` gets how far a log is judged.
+   * Asks a question: a word, and what belongs to it. `heard` gets how far a log is judged, or each step that holds.
    * @param {string} ask
    * @param {object} words
-   * @param {(done: number, total: number) => void} [heard]
+   * @param {(done: number | object, total?: number) => void} [heard]
    */
   ask(ask, words = {}, heard = () => {}, moved = []) {
     return new Promise((resolve, reject) => {
@@ -70,8 +70,9 @@ export class Thread {
     });
   }
 
-  #hear({ at, found, fault, done, total }) {
+  #hear({ at, found, fault, done, total, step }) {
     const waiting = this.#waiting.get(at);
+    if (step !== undefined) return waiting.heard(step);
     if (total !== undefined) return waiting.heard(done, total);
     this.#waiting.delete(at);
     if (fault) waiting.reject(new Fault(fault));

@@ -7,10 +7,12 @@ import { Library, NoLibrary, OutOfMemory, UnknownAlgorithm, WeoldrinError } from
 import { textOf } from "../../bindings/js/src/bytes.js";
 import { faultOfRead } from "../../bindings/js/src/auditing.js";
 import { Fault } from "../../bindings/js/src/faults.js";
+import { Told } from "./asking.js";
 import { keysOf, namespacesOf, permissionsOf, recordsOf, summaryOf, told, treeOf } from "./answers.js";
 import { LONGEST, isJson, publishedOf, signerOf } from "./checkpoints.js";
 import { MOST } from "./files.js";
 import { hasWebCrypto, judge } from "./judging.js";
+import { verifyPackage } from "./verifying.js";
 
 /** What is wrong with a file, and no fault of the package's. */
 class Wrong extends Error {
@@ -26,6 +28,7 @@ let haveModule;
 // What is asked before the page has the library's module waits for it.
 const module = new Promise((resolve) => (haveModule = resolve));
 let library;
+let asking;
 
 async function theLibrary() {
   // One that trapped is given up, and another one takes its place. Its logs are closed.
@@ -90,6 +93,22 @@ async function judged({ number, kind, toy, ...source }, heard) {
   return { ...found, ...beside, head: log.head(), refusal: refusal && shownRefusal(refusal, log.kind) };
 }
 
+/**
+ * A package of a registry is verified: `told` gets each step. The log that was fetched is one of those that are looked
+ * at once the last step holds. Whoever asks for another one gives the one before up.
+ */
+async function verified({ number, ...words }, _, told) {
+  asking?.abort();
+  const { signal } = (asking = new AbortController());
+  const beside = { library: await theLibrary(), signal, tell: told };
+  const { found, log } = await verifyPackage(words, beside);
+  if (found.state === "absent") return found;
+  logs.set(number, { log });
+  const count = log.length;
+  const judgedAs = { kind: log.kind, taken: count, count, toys: 0, refusal: null, head: log.head() };
+  return { ...found, log: { ...judgedAs, permissions: permissionsOf(log.kind), byLibrary: !hasWebCrypto() } };
+}
+
 function releasesAt(number, from, count) {
   const found = logAt(number);
   found.releases ??= [...found.log.releases()];
@@ -134,6 +153,7 @@ const ANSWERS = {
     return { version: (await theLibrary()).version() };
   },
   judge: judged,
+  verify: verified,
   records: ({ number, from, count }) => recordsOf(logAt(number).log, from, count),
   summary: async ({ number }) => {
     const { ids, names, signers, times, columns } = await summaryAt(number);
@@ -163,6 +183,7 @@ const ANSWERS = {
 
 /** What goes to the page of what was thrown. */
 function faultOf(error) {
+  if (error instanceof Told) return { name: error.name, sentence: error.message, isTold: true };
   if (error instanceof Wrong) return { name: error.name, ...error.beside };
   if (error instanceof Fault) return { ...error, name: error.name, sentence: error.message };
   if (error instanceof OutOfMemory || error instanceof RangeError) return { name: "OutOfMemory" };
@@ -173,8 +194,9 @@ function faultOf(error) {
 
 globalThis.onmessage = async ({ data: { at, ask, ...words } }) => {
   const heard = (done, total) => globalThis.postMessage({ at, done, total });
+  const told = (step) => globalThis.postMessage({ at, step });
   try {
-    globalThis.postMessage({ at, found: await ANSWERS[ask](words, heard) });
+    globalThis.postMessage({ at, found: await ANSWERS[ask](words, heard, told) });
   } catch (error) {
     globalThis.postMessage({ at, fault: faultOf(error) });
   }

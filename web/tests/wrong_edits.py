@@ -19,8 +19,11 @@ TESTS = pathlib.Path(__file__).parent
 MAIN, JUDGING, WORKER, ANSWERS = (f"web/src/{it}.js" for it in ("main", "judging", "worker", "answers"))
 DOM, READING, PANELS, PAGING = (f"web/src/{it}.js" for it in ("dom", "reading", "panels", "paging"))
 CHECKPOINTS, PROOFS, SIGNERS = (f"web/src/{it}.js" for it in ("checkpoints", "proofs", "signers"))
+ASKING, GROWING, VERIFYING = (f"web/src/{it}.js" for it in ("asking", "growing", "verifying"))
+REGISTRY, SEEN = (f"web/src/{it}.js" for it in ("registry", "seen"))
 COMPARING, FILES, PAGE, STYLE = "web/src/comparing.js", "web/src/files.js", "web/index.html", "web/style.css"
 FOUND = "found: { kind: 'package', taken: done, count: total, toys: 0, refusal: null, permissions: [] }"
+END = "shown.end(name, { state: 'verified', count: 4, length: 8, time: 1n, place: 7, head: '' })"
 NOTHING = "{ taken: 0, toys: 0, kind: 'package', refusal: null, log: await logOf('package', { library }) }"
 
 # The edit, and the test that sees it.
@@ -218,6 +221,114 @@ WRONG: dict[str, tuple[Edit, str]] = {
         (DOM, 'return el("code", { class: "id" }, quoted(id, 80));',
          'return Object.assign(el("code", { class: "id" }), { innerHTML: id });'),
         "test_hostile_checkpoint",
+    ),
+    "verified is said before the last step": (
+        (REGISTRY, "const heard = (found) => mine === turn && shown.hear(found);",
+         f"const heard = (found) => (shown.hear(found), found.name === 'leaf' && {END});"),
+        "test_nothing_before_the_last_step",
+    ),
+    "any log is the one of the name": (
+        (GROWING, "  throw await explained(it, log, wanted);\n", ""),
+        "test_log_of_another_name",
+    ),
+    "records of a registry are not judged": (
+        (GROWING, "      if (refusal) {", "      if (false) {"),
+        "test_records_that_are_not_those",
+    ),
+    "a log that was left short is another one": (
+        (GROWING, "if (ids.every((id, place) => id === own[place]))", "if (false)"),
+        "test_records_that_are_not_those",
+    ),
+    "any key signs a registry's checkpoint": (
+        (VERIFYING, 'if (state === "signed") return;', "if (state) return;"),
+        "test_checkpoint_not_signed",
+    ),
+    "a checkpoint may be of any time": (
+        (VERIFYING, "if (age > OLDEST) throw", "if (false) throw"),
+        "test_checkpoint_not_signed",
+    ),
+    "a checkpoint may be ahead": (
+        (VERIFYING, "if (age < -AHEAD) throw", "if (false) throw"),
+        "test_checkpoint_not_signed",
+    ),
+    "a number of an answer loses its end": (
+        (ASKING, "if (!numbers.every(Number.isSafeInteger)) throw", "if (false) throw"),
+        "test_checkpoint_not_signed",
+    ),
+    "any head stands in the map": (
+        (VERIFYING, "if (stands(library, logId, head, head.checkpoint.checkpoint.mapRoot)) return;",
+         "if (head) return;"),
+        "test_proofs_of_a_liar",
+    ),
+    "any log may be absent": (
+        (VERIFYING, "? library.verifyAbsence(logId, root, proof)", "? true"),
+        "test_absent",
+    ),
+    "a leaf stands anywhere": (
+        (VERIFYING, "logId, recordId, place, logLength, logRoot, proof))) return place;",
+         "logId, recordId, place, logLength, logRoot, proof)) || true) return place;"),
+        "test_proofs_of_a_liar",
+    ),
+    "a head stands under any checkpoint": (
+        (VERIFYING, "  checkSame(it, operators, published, head.checkpoint);\n", ""),
+        "test_another_checkpoint_below",
+    ),
+    "a leaf stands under any checkpoint": (
+        (VERIFYING, "  checkSame(it, operators, published, checkpoint);\n", ""),
+        "test_another_checkpoint_below",
+    ),
+    "an answer of another log is this one's": (
+        (ASKING, 'if (member(value, "logId", "string") !== logId) {', "if (false) {"),
+        "test_log_of_another_name",
+    ),
+    "an answer may be of any length": (
+        (ASKING, "await bytesOf(response, most);", "await bytesOf(response, 2 ** 40);"),
+        "test_answers_that_are_none",
+    ),
+    "an answer may take for ever": (
+        (ASKING, "const timer = setTimeout(end, SECONDS * 1000);", "const timer = 0;"),
+        "test_answers_that_are_none",
+    ),
+    "an answer leads elsewhere": ((ASKING, 'redirect: "manual"', 'redirect: "follow"'), "test_answers_that_are_none"),
+    "a refusal is an answer": (
+        (ASKING, "if (status === 200) return bytes;", "if (status) return bytes;"),
+        "test_answers_that_are_none",
+    ),
+    "a server that fails refuses": ((ASKING, "status >= 500", "status >= 600"), "test_answers_that_are_none"),
+    "another operator goes unseen": (
+        (VERIFYING, "if (seen && seen.key !== key) {", "if (false) {"),
+        "test_what_was_seen",
+    ),
+    "a registry may go back": ((VERIFYING, "if (seen) checkGoesOn(", "if (false) checkGoesOn("), "test_what_was_seen"),
+    "consistency is not asked": (
+        (VERIFYING, 'if (found !== "same" && found !== "goes-on") throw', "if (false) throw"),
+        "test_consistency_and_old_proofs",
+    ),
+    "an old proof is any false one": (
+        (VERIFYING, "if (seen && stands(", "if (false && stands("),
+        "test_consistency_and_old_proofs",
+    ),
+    "nothing of a registry is kept": ((SEEN, "localStorage.setItem(", "void ("), "test_what_was_seen"),
+    "a key that is another one can't be forgotten": (
+        (SEEN, "localStorage.removeItem(nameOf(address));", ""),
+        "test_what_was_seen",
+    ),
+    "a newer checkpoint ends the steps": (
+        (VERIFYING, 'if (!(error instanceof Problem && error.problem === "NotNewest")) throw error;', "throw error;"),
+        "test_newer_checkpoint_meanwhile",
+    ),
+    "who asks for another package is told of both": (
+        (REGISTRY, "      if (mine !== turn) return;\n      shown.fail", "      shown.fail"),
+        "test_another_package_meanwhile",
+    ),
+    "a log that was verified is not shown": ((REGISTRY, "if (found.log) add(", "if (false) add("), "test_verified"),
+    "the operators' key is not shown": (
+        (REGISTRY, 'if (found.name === "operators") fill(', "if (false) fill("),
+        "test_verified",
+    ),
+    "a registry's sentence is markup": (
+        (REGISTRY, 'el("bdi", { class: "said" }, sentence)', 'Object.assign(el("bdi"), { innerHTML: sentence })'),
+        "test_hostile_answers",
     ),
     "a button of a page is disabled": (
         (PAGING, 'for (const it of on) it.setAttribute("aria-disabled", String(isLast));',
