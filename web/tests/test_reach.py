@@ -1,5 +1,6 @@
 """Who reaches the page, and where it runs."""
 import pathlib
+import re
 import subprocess
 from typing import Any
 
@@ -7,9 +8,11 @@ import logs
 from browsers import UNSAFE
 from logs import EXAMPLES
 from page import JUDGED, PageTests, in_each
-from served import Edit, Edited, Tested
+from served import ROOT, Edit, Edited, Tested
 from test_checkpoints import MADE
 
+# The engines that run the page, from these versions on.
+RUN_IT = "Chromium 97, Firefox 114, Safari 16.4"
 RULES = (pathlib.Path(__file__).parent / "rules.js").read_text(encoding="utf-8")
 
 
@@ -116,7 +119,18 @@ class Places(PageTests):
     def test_sources_opened_as_a_file(self) -> None:
         self.browser.open((Tested.root / "web/index.html").as_uri())
         self.browser.wait("at('unopened').checkVisibility({ visibilityProperty: true })")
-        self.assertIn("run tools/web, which serves it, or tools/web --file", self.text("#unopened"))
+        said = self.text("#unopened")
+        self.assertIn("run tools/web, which serves it, or tools/web --file", said)
+        self.assertIn(f"the browser is too old: {RUN_IT} and later ones run it.", said)
+
+    def test_engines(self) -> None:
+        """One list says everywhere which engines run the page and the package."""
+        page = [Tested.root / "web/index.html", Tested.root / "bindings/js/src/engine.js"]
+        for path in (*page, ROOT / "web/README.md", ROOT / "bindings/js/README.md"):
+            text = " ".join(path.read_text(encoding="utf-8").split())
+            self.assertIn(RUN_IT, text, path)
+            if path in page:
+                self.assertEqual(len(re.findall("(?:Chromium|Firefox|Safari) [0-9]", text)), 3, path)
 
     def of_edited(self, *edits: Edit) -> str:
         """What a page with these edits says of an example."""
@@ -133,7 +147,7 @@ class Places(PageTests):
 
     def test_no_vectors(self) -> None:
         said = self.of_edited(("bindings/js/src/engine.js", "65, 0, 253, 15, 11", "65, 0, 253, 255, 11"))
-        self.assertIn("this engine has no WebAssembly with vectors of 128 bits (SIMD); Chromium 91, Firefox 89", said)
+        self.assertIn(f"this engine has no WebAssembly with vectors of 128 bits (SIMD); {RUN_IT}", said)
 
     def test_no_module(self) -> None:
         said = self.of_edited(("web/src/main.js", "../dist/wasm/libwarg.wasm", "../dist/wasm/nothing.wasm"))

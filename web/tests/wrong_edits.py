@@ -330,6 +330,7 @@ WRONG: dict[str, tuple[Edit, str]] = {
         (REGISTRY, 'el("bdi", { class: "said" }, sentence)', 'Object.assign(el("bdi"), { innerHTML: sentence })'),
         "test_hostile_answers",
     ),
+    "another list of engines": ((PAGE, "Chromium 97", "Chromium 133"), "test_engines"),
     "a button of a page is disabled": (
         (PAGING, 'for (const it of on) it.setAttribute("aria-disabled", String(isLast));',
          "for (const it of on) it.disabled = isLast;"),

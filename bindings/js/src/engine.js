@@ -10,8 +10,8 @@ const PROBE = Uint8Array.of(
 );
 
 const NO_VECTORS =
-  "NoLibrary: this engine has no WebAssembly with vectors of 128 bits (SIMD); Chromium 91, Firefox 89, Safari 16.4 and " +
-  "Node 16.4 have them, and later ones";
+  "NoLibrary: this engine has no WebAssembly with vectors of 128 bits (SIMD); Chromium 97, Firefox 114, Safari 16.4, " +
+  "Node 20 and later ones run this package";
 
 /** Whether the engine runs the library: whether it has WebAssembly with vectors of 128 bits. */
 export function isSupported() {

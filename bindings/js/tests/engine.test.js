@@ -25,8 +25,8 @@ function elsewhere(code, flags = []) {
 }
 
 const NO_VECTORS =
-  "NoLibrary: this engine has no WebAssembly with vectors of 128 bits (SIMD); Chromium 91, Firefox 89, Safari 16.4 and " +
-  "Node 16.4 have them, and later ones\n";
+  "NoLibrary: this engine has no WebAssembly with vectors of 128 bits (SIMD); Chromium 97, Firefox 114, Safari 16.4, " +
+  "Node 20 and later ones run this package\n";
 
 test("an engine without vectors", () => {
   const code = `
