@@ -115,34 +115,38 @@ async function place() {
 
 class Shown {
   #told = at("verify-said");
+  // It changes too often to be read out.
+  #read = at("verify-read");
   #steps = at("steps");
   #beside = at("verified");
 
+  #clear(sentence) {
+    this.#told.textContent = sentence;
+    for (const it of [this.#read, this.#steps, this.#beside]) fill(it);
+  }
+
   begin(name, address) {
-    this.#told.textContent = `Asking ${quoted(address, 120)} for ${quoted(name, 130)}.`;
-    fill(this.#steps);
-    fill(this.#beside);
+    this.#clear(`Asking ${quoted(address, 120)} for ${quoted(name, 130)}.`);
   }
 
   /** A step that holds, or how many records were read. */
   hear(found) {
-    if (found.name === "again") {
-      fill(this.#steps);
-      fill(this.#beside);
-      this.#told.textContent = "A newer checkpoint came: the steps are taken anew under it.";
-    } else if (found.name === "reading") this.#told.textContent = `${many(found.count, "record")} read.`;
+    if (found.name === "again") this.#clear("A newer checkpoint came: the steps are taken anew under it.");
+    else if (found.name === "reading") this.#read.textContent = `${many(found.count, "record")} read so far.`;
     else this.#steps.append(step("good", found.name, "holds", STEPS[found.name](found)));
     if (found.name === "operators") fill(this.#beside, keySaid(found));
   }
 
   end(name, found) {
     const [look, sentence, ...more] = VERDICTS[found.state]({ name, ...found });
+    fill(this.#read);
     this.#told.textContent = sentence;
     this.#beside.prepend(el("p", { class: `box ${look}`, "data-verdict": found.state }, sentence, " ", more, "."));
   }
 
   fail(error, forget) {
     const [name, sentence] = faultOf(error);
+    fill(this.#read);
     this.#told.textContent = `Not verified. ${name}: ${sentence}.`;
     this.#steps.append(step("bad", "failed", name, el("bdi", { class: "said" }, sentence), "."));
     if (forget) this.#beside.append(el("p", {}, button("Forget what this browser saw of this registry", forget)));

@@ -1,5 +1,6 @@
 """A package of a registry, verified from its name down to a signed checkpoint, and registries that lie."""
 import json
+import pathlib
 import unittest
 from typing import Any
 
@@ -9,12 +10,13 @@ from canned import MADE, Answer, Canned, Lie, problem
 from page import PageTests, in_each
 from served import Edit, Edited
 
+RULES = (pathlib.Path(__file__).parent / "rules.js").read_text(encoding="utf-8")
 MATH, NONE = "example:math", "example:none"
 IDS, HEADS, KEYS = MADE["logIds"], MADE["heads"], MADE["keys"]
 NEWEST, OLDER, FORK = (MADE["answers"][it] for it in ("newest", "older", "fork"))
-# The canned checkpoints are of one time, and the page's clock is a minute later. It waits for two seconds.
+# The canned checkpoints are of one time, and the page's clock is a minute later. It waits for eight seconds.
 CLOCK: Edit = ("web/src/verifying.js", "Math.floor(Date.now() / 1000)", "1_700_000_060")
-SOON: Edit = ("web/src/asking.js", "const SECONDS = 60;", "const SECONDS = 2;")
+SOON: Edit = ("web/src/asking.js", "const SECONDS = 60;", "const SECONDS = 8;")
 STEPS = ["name", "operators", "signed", "fresh", "head", "leaf", "records"]
 WATCH = """
 document.seen = [];
@@ -254,7 +256,7 @@ class OfRegistry(PageTests):
             ("no answer", "with status 500", problem(500, "Internal")),
             ("no answer", "with status 503", (503, b"")),
             ("bad answer", "longer than the 65536 bytes", True),
-            ("no answer", "did not come within 2 seconds", False),
+            ("no answer", "did not come within 8 seconds", False),
         ]
         for word, sentence, answer in wrong:
             with self.subTest(sentence, answer=str(answer)[:40]):
@@ -265,6 +267,20 @@ class OfRegistry(PageTests):
         self.canned.begin("newest")
         self.canned.lie = instead(f"{IDS['math']}/records?from=2", True)
         self.not_verified("bad answer", "bytes that are read of it here", after=6)
+
+    def test_rules_of_a_registry(self) -> None:
+        """The keyboard asks for a package, and keeps its place; a verdict and a fault keep the rules for readers."""
+        self.browser.resize(360, 700)
+        self.browser.wait("at('other').open")
+        self.browser.run(f"at('registry').value = {self.canned.address!r}; at('package').value = {MATH!r}")
+        self.browser.run("at('package').focus()")
+        self.browser.press("Enter")
+        self.browser.wait("document.querySelector('[data-verdict=verified]')")
+        self.assertEqual(self.browser.run("return document.activeElement.id"), "package")
+        self.assertEqual(self.browser.run(RULES), [])
+        self.canned.begin("others")
+        self.not_verified("other operator")
+        self.assertEqual(self.browser.run(RULES), [])
 
     def test_no_registry(self) -> None:
         self.browser.wait("at('other').open")
