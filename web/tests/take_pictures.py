@@ -9,10 +9,13 @@ import tempfile
 import logs
 from browsers import Chromium, begun, end_all
 from logs import EXAMPLES
+from canned import Canned
 from page import JUDGED
-from served import ROOT, Served
+from served import ROOT, Edited, Served
 from small_png import smaller
+from test_checkpoints import MADE
 from test_proofs import CHECKPOINT, INCLUSION, MATH, RECORD
+from test_registry import CLOCK
 
 FOLDER = ROOT / "docs/pictures"
 # A picture is no larger.
@@ -73,9 +76,33 @@ def take_all(pictures: Pictures, folder: pathlib.Path) -> None:
         browser.run(f"document.getElementById({name!r}).value = {value!r}")
     browser.run("document.getElementById('proof-form').requestSubmit()")
     pictures.take("web-checkpoint", "#proofs", "#proof-said [data-holds]")
+    pictures.begin(720, 640)
+    pictures.drop(EXAMPLES / "operator_namespaces.hex")
+    browser.run("document.getElementById('tab-namespaces').click()")
+    pictures.take("web-namespaces", "#shown", "#panel-namespaces tbody tr")
+    pictures.begin(720, 620)
+    operators = logs.write(folder, "operators.hex", MADE["log"].encode())
+    pictures.drop(operators, logs.write(folder, "checkpoint.json", MADE["published"].encode()), are_toys=False)
+    pictures.take("web-signed", "#results", "[data-signer=signed]")
     pictures.begin(360, 740, is_dark=True)
     pictures.drop(EXAMPLES / "p256/package.hex", are_toys=False)
     pictures.take("web-narrow-dark", "#results", ".columns")
+
+
+def take_registry(browser: Chromium) -> None:
+    """The picture of a package of a registry, of canned answers, by a page whose clock is theirs."""
+    served, canned = Edited(CLOCK), Canned()
+    try:
+        pictures = Pictures(browser, served.address)
+        pictures.begin(720, 860)
+        browser.wait("document.getElementById('other').open")
+        browser.run("document.getElementById('package').value = 'example:math'")
+        browser.run(f"document.getElementById('registry').value = {canned.address!r}")
+        browser.run("document.getElementById('verify-form').requestSubmit()")
+        pictures.take("web-registry", "#verify", "[data-verdict=verified]")
+    finally:
+        canned.close()
+        served.close()
 
 
 def main() -> int:
@@ -87,6 +114,7 @@ def main() -> int:
     try:
         with tempfile.TemporaryDirectory() as folder:
             take_all(Pictures(browser, served.address), pathlib.Path(folder))
+        take_registry(browser)
     finally:
         end_all()
         served.close()
