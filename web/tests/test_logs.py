@@ -5,6 +5,32 @@ import logs
 from logs import EXAMPLES
 from page import JUDGED, MOST, PageTests, in_each
 
+# Gives the next frame, and keeps the longest time between two.
+FRAMES = """
+let longest = 0, before = performance.now();
+const frame = async () => {
+  await new Promise(requestAnimationFrame);
+  const now = performance.now();
+  longest = Math.max(longest, now - before);
+  before = now;
+};
+await frame();
+longest = 0;
+"""
+# Goes to a place of the time line, and scrolls over the page of records that it is on, frame by frame.
+SCROLLED = """
+document.querySelector("#panel-records .place").value = "{0}";
+document.querySelector("#panel-records .pager form").requestSubmit();
+const line = () => document.querySelector("#panel-records ol.line");
+for (let count = 0; line()?.start !== {0} && count < 600; count++) await frame();
+if (line()?.start !== {0}) throw new Error("the page of records did not come");
+line().scrollIntoView();
+for (let count = 0; count < 24; count++) {{
+  scrollBy(0, 400);
+  await frame();
+}}
+"""
+
 
 class LongLogs(PageTests):
     """Logs that take a while."""
@@ -68,6 +94,32 @@ class LongLogs(PageTests):
         self.assertLess(self.browser.run("return document.querySelectorAll('*').length"), 8000)
         # The page answered all the while.
         self.assertLess(self.browser.run("return document.longest"), 1000)
+
+    def gaps(self, script: str) -> float:
+        """The longest time between two frames, in milliseconds, while a script runs that may wait for the next one."""
+        return float(self.browser.run(f"{FRAMES} {script}; return longest;"))
+
+    def gaps_of(self, count: int, *places: int) -> float:
+        """The same of a log of so many records whose time line is scrolled at these places."""
+        self.dropped(logs.write(self.folder, f"{count}.hex", logs.made(str(count))))
+        self.tab("records", ".columns")
+        return max(self.gaps(SCROLLED.format(place)) for place in places)
+
+    def test_scrolling_20000_records(self) -> None:
+        """Frames come while a long time line is scrolled, and its pages change, as they do for one that is short."""
+        found = []
+        # Another job may hold frames up: one quiet run of some is enough.
+        for _ in range(4):
+            self.opened(self.served.address)
+            empty = self.gaps("for (let count = 0; count < 30; count++) await frame()")
+            self.with_toys()
+            short = self.gaps_of(100, *[0] * 5)
+            self.opened(self.served.address)
+            self.with_toys()
+            found.append((self.gaps_of(20_000, *range(0, 20_000, 4_500)), max(200.0, 3 * empty, 2 * short)))
+            if found[-1][0] <= found[-1][1]:
+                return
+        self.fail(f"the longest time between two frames, and what it may be: {found}")
 
     def test_one_record_of_very_many_entries(self) -> None:
         self.with_toys()

@@ -120,6 +120,11 @@ WRONG: dict[str, tuple[Edit, str]] = {
         (PAGING, "draw(found.rows, from, found)", "draw(found.rows, 0, found)"),
         "test_pages",
     ),
+    "a page of records holds frames up": (
+        (PAGING, "draw(found.rows, from, found)",
+         "(((end) => { while (Date.now() < end); })(Date.now() + total / 8), draw(found.rows, from, found))"),
+        "test_scrolling_20000_records",
+    ),
     "all rows are in the page": (
         (PANELS, "[RECORDS, ROWS, HOLDERS] = [100, 100, 100]", "[RECORDS, ROWS, HOLDERS] = [50_000, 100, 100]"),
         "test_pages",
