@@ -22,10 +22,17 @@ PUBLISHING, STORAGE, STATES = "test_publishing.Publishing", "test_storage.Writer
 READING, CONNECTIONS = "test_reading.Reading", "test_connections.Connections"
 PROOFS, KEYS, UNVERIFIED = "test_checkpoints.Proofs.test_all", "test_checkpoints.Keys", "test_unverified.Unverified"
 TREES = "test_trees.Trees"
+FOUND = "test_installed.Found"
 
 # The file, what stands there, what is put there, and the test that sees it.
 Wrong = tuple[str, str, str, str]
 WRONG: dict[str, Wrong] = {
+    # The page
+    "a page that lacks a part is served": ("page.py", "if all((it", "if any((it", f"{FOUND}.test_parts"),
+    "that there is no page is not said": (
+        "page.py", '        tell(f"the page', '        str(f"the page', f"{FOUND}.test_parts"),
+    "the page is looked for around an installed copy": (
+        "page.py", 'if not (_SOURCES / "hatch_build.py").is_file():', "if False:", f"{FOUND}.test_of_strangers"),
     # Publishing
     "any signature belongs": (
         "publishing.py", "belongs = verify(*question)", "belongs = True", f"{PUBLISHING}.test_offences"),

@@ -29,7 +29,7 @@ class Settings:
     operator_key_id: str = ""
     """The id of the key that may begin the operator log. Without one it is that of `key`."""
     static: str = ""
-    """The folder of the repository, whose page is served. Without one it is looked for."""
+    """A clone of the repository, whose page is served. Without one it is the page that came with the package."""
     host: str = "127.0.0.1"
     port: int = 8080
 
