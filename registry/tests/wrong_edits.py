@@ -22,11 +22,26 @@ PUBLISHING, STORAGE, STATES = "test_publishing.Publishing", "test_storage.Writer
 READING, CONNECTIONS = "test_reading.Reading", "test_connections.Connections"
 PROOFS, KEYS, UNVERIFIED = "test_checkpoints.Proofs.test_all", "test_checkpoints.Keys", "test_unverified.Unverified"
 TREES = "test_trees.Trees"
-FOUND = "test_installed.Found"
+BEGINNING, FOUND = "test_beginning.Beginning", "test_installed.Found"
 
 # The file, what stands there, what is put there, and the test that sees it.
 Wrong = tuple[str, str, str, str]
 WRONG: dict[str, Wrong] = {
+    # Beginning
+    "a log is begun among records": (
+        "beginning.py", "elif not count:", "elif not has_operators:", f"{BEGINNING}.test_records"),
+    "a key is made that can not sign": (
+        "beginning.py", "if count and not settings.operator_key_id:", "if False:", f"{BEGINNING}.test_other_key"),
+    "a log is begun though another key is named": (
+        "beginning.py", "    if settings.operator_key_id:\n", "    if False:\n", f"{BEGINNING}.test_operator_key_id"),
+    "a key that another process makes is a failure": (
+        "beginning.py", "except KeyExists:", "except ZeroDivisionError:", f"{BEGINNING}.test_overtaken"),
+    "a log that another process begins is a failure": (
+        "beginning.py", 'if problem.name != "NotNext":', "if True:", f"{BEGINNING}.test_overtaken"),
+    "what failed is another process's": (
+        "beginning.py", 'if problem.name != "NotNext":', "if False:", f"{BEGINNING}.test_refused"),
+    "all is begun unasked": (
+        "command.py", "if words.new:", "if settings.key:", "test_beginning.Command.test_not_asked"),
     # The page
     "a page that lacks a part is served": ("page.py", "if all((it", "if any((it", f"{FOUND}.test_parts"),
     "that there is no page is not said": (

@@ -1,11 +1,13 @@
 """The command `weoldrin-registry`.
 
-    weoldrin-registry serve [DATABASE] [--key FILE] [--settings FILE] [--host HOST] [--port PORT] [--static FOLDER]
+    weoldrin-registry serve [DATABASE] [--key FILE] [--new] [--settings FILE] [--host HOST] [--port PORT]
+                            [--static FOLDER]
     weoldrin-registry begin [DATABASE] --key FILE     begins the operator log by a key, which may then sign checkpoints
     weoldrin-registry new-key FILE                    makes a key
 
-`serve` prints the address on standard output when it answers, and a line for each request on standard error. Status: 0
-done, 1 refused, 2 wrong words or settings, 3 the storage or the network failed.
+`serve` prints the address on standard output when it answers, and a line for each request on standard error. With
+`--new` it makes the key and begins the operator log by it before, where they are not there yet, which is for the first
+start alone. Status: 0 done, 1 refused, 2 wrong words or settings, 3 the storage or the network failed.
 """
 
 from __future__ import annotations
@@ -13,44 +15,29 @@ from __future__ import annotations
 import argparse
 import pathlib
 import sys
-import time
 
-from weoldrin import Error, LogKind, printing, records
+from weoldrin import Error, printing
 
+from .beginning import begin, begin_new
 from .problems import Problem
-from .publishing import log_name
-from .registry import Registry
 from .serve import serve
-from .settings import BadSettings, Settings, from_file
-from .signing import new_key, signer_in
+from .settings import BadSettings, from_file
+from .signing import new_key
 from .storage import StorageError
 
 
-def begin(settings: Settings) -> None:
-    """Appends the first record of the operator log. Raises a `Problem` where there is one."""
-    if not settings.key:
-        raise BadSettings("begin needs a key")
-    signer = signer_in(pathlib.Path(settings.key))
-    contents = records.contents(None, time.time_ns(), [records.init(signer.public_key)])
-    envelope = records.signed(LogKind.OPERATOR, contents, signer.public_key, signer.sign)
-    registry = Registry(settings)
-    try:
-        print(registry.publish(log_name(LogKind.OPERATOR), envelope)[0].record_id)
-    finally:
-        registry.stop()
-
-
-def _words() -> argparse.ArgumentParser:
-    parser = argparse.ArgumentParser(
-        "weoldrin-registry", description=__doc__, formatter_class=argparse.RawDescriptionHelpFormatter
-    )
+def _parser(name: str) -> argparse.ArgumentParser:
+    parser = argparse.ArgumentParser(name, description=__doc__, formatter_class=argparse.RawDescriptionHelpFormatter)
     commands = parser.add_subparsers(dest="command", required=True)
-    for name in ("serve", "begin"):
-        command = commands.add_parser(name)
+    for it in ("serve", "begin"):
+        command = commands.add_parser(it)
         command.add_argument("database", nargs="?")
         command.add_argument("--key")
         command.add_argument("--settings", type=pathlib.Path)
     serving = commands.choices["serve"]
+    serving.add_argument(
+        "--new", action="store_true", help="makes the key and begins the operator log, where they are not there yet"
+    )
     serving.add_argument("--host")
     serving.add_argument("--port", type=int)
     serving.add_argument("--static")
@@ -66,22 +53,24 @@ def run(words: argparse.Namespace) -> int:
     given = {it: getattr(words, it, None) for it in ("database", "key", "host", "port", "static")}
     settings = from_file(words.settings, **given)
     if words.command == "begin":
-        begin(settings)
+        print(begin(settings))
         return 0
+    if words.new:
+        begin_new(settings)
     return 0 if serve(settings) else 3
 
 
-def main() -> int:
-    """Runs the command, and says in a sentence what it failed of."""
+def main(words: list[str] | None = None, name: str = "weoldrin-registry") -> int:
+    """Runs the words of the command, which has a name, and says in a sentence what it failed of."""
     try:
-        return run(_words().parse_args())
+        return run(_parser(name).parse_args(words))
     except Problem as error:
         status, sentence = 1, f"{error.name}: {error.detail}"
     except BadSettings as error:
         status, sentence = 2, str(error)
     except (OSError, StorageError, Error) as error:
         status, sentence = 3, str(error)
-    printing.tell(f"weoldrin-registry: {sentence}")
+    printing.tell(f"{name}: {sentence}")
     return status
 
 

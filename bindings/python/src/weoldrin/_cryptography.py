@@ -2,11 +2,14 @@
 
 from __future__ import annotations
 
+import os
+
 from cryptography.exceptions import InvalidSignature, UnsupportedAlgorithm
 from cryptography.hazmat.primitives import hashes, serialization
 from cryptography.hazmat.primitives.asymmetric import ec
 
 from . import p256
+from ._files import make_private
 
 _SCHEME = ec.ECDSA(hashes.SHA256())
 
@@ -56,6 +59,11 @@ class SigningKey:
         return self._key.private_bytes(
             serialization.Encoding.PEM, serialization.PrivateFormat.PKCS8, serialization.NoEncryption()
         )
+
+    def save_new(self, path: str | os.PathLike[str]) -> None:
+        """Saves the key as PEM in a new file, for its owner alone, all or nothing. Raises `FileExistsError` where there
+        is a file, which is left as it is, and `OSError`."""
+        make_private(os.fspath(path), self.to_pem())
 
     def sign(self, message: bytes) -> str:
         """The text of a signature of the message."""

@@ -4,6 +4,7 @@ import contextlib
 import errno
 import fcntl
 import os
+import secrets
 import stat
 from collections.abc import Iterable, Iterator
 from typing import NamedTuple
@@ -106,8 +107,34 @@ def replace(path: str, file: int, data: bytes) -> None:
         rest = rest[os.write(file, rest) :]
     os.fsync(file)
     os.replace(f"{path}.new", path)
-    folder = os.open(os.path.dirname(path) or ".", os.O_RDONLY | os.O_DIRECTORY | os.O_CLOEXEC)
+    flush_folder(os.path.dirname(path))
+
+
+def make_private(path: str, data: bytes) -> None:
+    """Makes a file of these bytes for its owner alone, all or nothing and for good. Raises `FileExistsError` where
+    there is a file, which is left as it is, and `OSError`.
+
+    It is written under another name, so that nobody sees half of it, and whoever is killed leaves none of this name.
+    """
+    folder, name = os.path.split(path)
+    beside = os.path.join(folder, f".{name}.{secrets.token_hex(8)}.new")
+    file = os.open(beside, os.O_WRONLY | os.O_CREAT | os.O_EXCL | os.O_NOFOLLOW | os.O_CLOEXEC, 0o600)
     try:
-        os.fsync(folder)
+        with open(file, "wb") as stream:
+            stream.write(data)
+            stream.flush()
+            os.fsync(file)
+        # A rename would replace what is there.
+        os.link(beside, path)
     finally:
-        os.close(folder)
+        os.unlink(beside)
+    flush_folder(folder)
+
+
+def flush_folder(folder: str) -> None:
+    """Has the names of a folder on the disk."""
+    opened = os.open(folder or ".", os.O_RDONLY | os.O_DIRECTORY | os.O_CLOEXEC)
+    try:
+        os.fsync(opened)
+    finally:
+        os.close(opened)

@@ -9,7 +9,7 @@ import secrets
 import stat
 from collections.abc import Iterator, Sequence
 
-from .._files import lines_of, open_regular
+from .._files import flush_folder, lines_of, open_regular
 from ..auditing import envelopes_of
 from ..faults import BadLine
 from .told import NoAnswer, Unusable, Unwritten
@@ -65,7 +65,7 @@ class LogFile:
             with contextlib.suppress(FileNotFoundError):
                 os.unlink(beside)
             raise
-        _flush_folder(folder)
+        flush_folder(folder)
 
     def _keep_mode(self, file: int) -> None:
         """Gives a new file the owner, the group and the permissions of the old one."""
@@ -73,14 +73,6 @@ class LogFile:
             if os.fstat(file).st_uid != self._mode.st_uid or os.fstat(file).st_gid != self._mode.st_gid:
                 os.fchown(file, self._mode.st_uid, self._mode.st_gid)
             os.fchmod(file, stat.S_IMODE(self._mode.st_mode))
-
-
-def _flush_folder(folder: str) -> None:
-    opened = os.open(folder or ".", os.O_RDONLY | os.O_DIRECTORY | os.O_CLOEXEC)
-    try:
-        os.fsync(opened)
-    finally:
-        os.close(opened)
 
 
 @contextlib.contextmanager
