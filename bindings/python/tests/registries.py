@@ -14,7 +14,18 @@ import urllib.parse
 from collections.abc import Callable, Iterator
 from typing import IO, Any
 
-from weoldrin import Checkpoint, Log, OperatorLog, PackageLog, SignedCheckpoint, log_id, p256, record_id, records
+from weoldrin import (
+    Checkpoint,
+    Log,
+    OperatorLog,
+    PackageLog,
+    Refused,
+    SignedCheckpoint,
+    log_id,
+    p256,
+    record_id,
+    records,
+)
 from weoldrin.registry import command
 
 from . import published, trees
@@ -32,7 +43,7 @@ Twist = Callable[[str, Query, Reply], Reply]
 
 def json_reply(value: object, status: int = 200) -> Reply:
     """A reply of JSON."""
-    kind = "application/json" if status == 200 else "application/problem+json"
+    kind = "application/json" if status < 300 else "application/problem+json"
     return status, {"Content-Type": kind}, json.dumps(value).encode()
 
 
@@ -137,6 +148,8 @@ class Registry:
             if name not in self.logs:
                 return problem(404, "NoLog")
             return self._lines([f"{it.hex()}\n" for it in self.logs[name][since:]], RECORDS)
+        if path.startswith("/v1/package/"):
+            return self._published(log_id("package", path.split("/")[3]), body)
         if not self.signed:
             return problem(404, "NoCheckpoint")
         if path == "/v1/checkpoint":
@@ -144,6 +157,19 @@ class Registry:
         if not path.startswith("/v1/proof/"):
             return problem(404, "NotFound")
         return self._proof(path.removeprefix("/v1/proof/"), query, since)
+
+    def _published(self, name: str, envelope: bytes) -> Reply:
+        """What a record is answered that is sent to a log."""
+        its_id, log = record_id("package", envelope), self.log(name)
+        if Leaf(name, its_id) in self.leaves:
+            return problem(409, "NotNext", published=json.loads(self._leaf(Leaf(name, its_id))[2]))
+        try:
+            log.append(envelope)
+        except Refused as error:
+            is_link = error.name in ("RecordHashDoesNotMatch", "NoPreviousHashAfterInit")
+            return problem(409, "NotNext") if is_link else problem(422, error.name)
+        self.add(name, envelope)
+        return json_reply(json.loads(self._leaf(Leaf(name, its_id))[2]), 201)
 
     @staticmethod
     def _lines(lines: list[str], bound: int) -> Reply:

@@ -132,7 +132,7 @@ class Program(unittest.TestCase):
 
     def test_registries(self) -> None:
         """What asks a registry is this package's, also where there is no program, and only as the first word."""
-        for word in ("fetch", "lock", "check", "monitor", "gossip"):
+        for word in ("fetch", "publish", "lock", "check", "monitor", "gossip"):
             for found in ("None", "'/bin/echo'"):
                 code = (
                     "import sys\n"
@@ -146,6 +146,32 @@ class Program(unittest.TestCase):
                 self.assertTrue(done.stdout.startswith(f"usage: weoldrin {word} "), done.stdout)
             other = code.replace(f"'{word}', '--help'", f"'audit', '{word}'")
             self.assertEqual(run(other).stdout, f"audit {word}\n")
+
+    def test_serve(self) -> None:
+        """`serve` is the registry's package's, and where that is not installed it is said which one it is."""
+        code = (
+            "import sys\n"
+            "from weoldrin import _native, _program\n"
+            "_native.found = lambda name: '/bin/echo'\n"
+            "sys.argv = ['anything', *{!r}]\n"
+            "sys.exit(_program.main())\n"
+        )
+        with tempfile.TemporaryDirectory() as folder:
+            package = pathlib.Path(folder) / "weoldrin_registry"
+            package.mkdir()
+            (package / "__init__.py").touch()
+            said = "def main(words, name):\n    print(name, *words)\n    return 5\n"
+            (package / "command.py").write_text(said, encoding="utf-8")
+            paths = ":".join([folder, *sys.path])
+            done = run(code.format(["serve", "a", "--new"]), PYTHONPATH=paths)
+            self.assertEqual((done.returncode, done.stdout, done.stderr), (5, "weoldrin serve a --new\n", ""))
+            self.assertEqual(run(code.format(["audit", "serve"]), PYTHONPATH=paths).stdout, "audit serve\n")
+            # As where a package is missing that it needs.
+            (package / "command.py").write_text("import weoldrin_none\n", encoding="utf-8")
+            done = run(code.format(["serve"]), PYTHONPATH=paths)
+        self.assertEqual((done.returncode, done.stdout, done.stderr.count("\n")), (3, "", 1))
+        self.assertIn("weoldrin: serve needs the package weoldrin-registry, and what that needs: ", done.stderr)
+        self.assertIn("No module named 'weoldrin_none'", done.stderr)
 
     def _told(self, program: pathlib.Path | None) -> str:
         """What the command says on standard error where the program can't be run; its status is 3."""

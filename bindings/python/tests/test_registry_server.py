@@ -92,6 +92,23 @@ class Server(unittest.TestCase):
         words = ["--database", str(self.folder / "seen"), "--once", "--workers", "1"]
         return run("monitor", self.url, *words, "--saw", str(self.folder / "saw"))
 
+    def _publish_by_command(self, leaf: int) -> tuple[int, str, str]:
+        """Publishes a new package by a new key, and then more of it, and gives what the last run says."""
+        (self.folder / "content").write_bytes(b"content")
+        key, trust = str(self.folder / "bob.pem"), str(self.folder / "bob.trust")
+        publish = "publish", self.url, "a:new"
+        for place, version in enumerate(("1.0.0", "1.1.0")):
+            words = f"release {version} {self.folder / 'content'}", "--key", key, "--trust", trust
+            status, printed, said = run(*publish, *words)
+            self.assertRegex(printed, f"^ok sha256:[0-9a-f]{{64}} leaf {leaf + place}\n$", said)
+        self.assertEqual(run(*publish, *words)[1], printed)
+        self.assertEqual(run(*publish, "yank 7.0.0", "--key", key)[:2], (1, "refused 2 YankOfUnreleased\n"))
+        long = [f"release 2.{it}.0 {records.sha256_text(b'')}" for it in range(4_000)]
+        status, printed, said = run(*publish, *long, "--key", key)
+        self.assertEqual((status, printed, "413 TooLong" in said), (1, "", True), said)
+        self._wait(leaf + 2)
+        return run("fetch", self.url, "a:new", "--trust", trust)
+
     def test_all(self) -> None:
         self._post("operator", self.operator, records.init(self.key.public_key), records.define_namespace("a"))
         self._post("package/a:b", self.package, records.init(self.key.public_key))
@@ -119,6 +136,8 @@ class Server(unittest.TestCase):
         self.assertEqual((status, said, audit(out, "package").records), (0, "", 10), printed)
         self.assertEqual(run("check", self.url, locked)[0], 1)
         self.assertEqual(self._monitor()[0], 0)
+        status, printed, said = self._publish_by_command(14)
+        self.assertEqual(status, 0, printed + said)
         for other in ("older", "saw"):
             self.assertEqual(run("gossip", str(self.folder / "seen"), str(self.folder / other))[0], 0)
 

@@ -26,10 +26,67 @@ COUNTED = "test_logs.Packages.test_counts_of_resumed_logs"
 THREADS, FORGOTTEN = "test_registry_threads.Threads", "test_registry_threads.Forgotten"
 SIGNALS, FORKS, ENDS = (f"test_registry_interrupted.{it}" for it in ("Signals", "Forks", "Ends"))
 CLIENT, MONITOR = "test_registry_client", "test_registry_monitor"
+PUBLISH, REFUSALS, LOST, HOSTILE = (
+    f"test_registry_publish.{it}" for it in ("Publish", "Refusals", "LostAnswers", "Hostile")
+)
+SENT = "registry/publishing.py"
 
 # The file, what stands there, what is put there, and the test that sees it.
 Wrong = tuple[str, str, str, str]
 WRONG: dict[str, Wrong] = {
+    # Publishing
+    "a key is saved over a file": (
+        "_files.py", "os.link(beside, path)", "os.replace(beside, path)\n        os.link(path, beside)",
+        f"{PUBLISH}.test_saved"),
+    "what a key was written to stays": (
+        "_files.py", "    finally:\n        os.unlink(beside)", "    finally:\n        pass", f"{PUBLISH}.test_saved"),
+    "others may read a new key": (
+        "_files.py", "O_NOFOLLOW | os.O_CLOEXEC, 0o600)", "O_NOFOLLOW | os.O_CLOEXEC, 0o666)",
+        f"{PUBLISH}.test_saved"),
+    "a key is made for a log that has begun": (
+        SENT, "if not is_there and not begins:", "if False:", f"{PUBLISH}.test_keys"),
+    "a log that no checkpoint has is begun anew": (
+        SENT, "if next(follower.registry.records(its_id, 0), None) is None:", "if True:",
+        f"{HOSTILE}.test_of_another_log"),
+    "records that no checkpoint has are passed over": (
+        SENT, "in follower.registry.records(its_id, len(envelopes)):", "in []:", f"{REFUSALS}.test_another_head"),
+    "records behind the checkpoint may be any": (
+        SENT, "except REFUSED as error:\n            sent", "except ZeroDivisionError as error:\n            sent",
+        f"{HOSTILE}.test_of_another_log"),
+    "a record that stands is published again": (SENT, "if its_id is None:", "if True:", f"{LOST}.test_run_again"),
+    "the last record alone is looked at": (
+        SENT, "first = min(at.seen, len(at.envelopes) - 1)", "first = len(at.envelopes) - 1", f"{LOST}.test_run_again"),
+    "any record of the same entries is the one": (
+        SENT, "first = min(at.seen, len(at.envelopes) - 1)", "first = 0", f"{LOST}.test_another_time"),
+    "a record that got no answer is given up": (
+        SENT, "_SENDINGS, _BETWEEN = 3,", "_SENDINGS, _BETWEEN = 1,", f"{LOST}.test_sent_again"),
+    "what was seen is not kept": (
+        SENT, "        if beside is not None:\n", "        if False:\n", f"{PUBLISH}.test_new"),
+    "a record's time is the clock's": (
+        SENT, "max(time.time_ns(), last.timestamp if last else 0)", "time.time_ns()", f"{PUBLISH}.test_clock"),
+    "a release has the digest of its file's name": (
+        SENT, "LogKind.PACKAGE, it, digest_of_file)", "LogKind.PACKAGE, it)", f"{PUBLISH}.test_new"),
+    "a digest is a file": (SENT, "if is_hash(path):", "if False:", f"{PUBLISH}.test_digests"),
+    "an init that is named comes twice": (
+        SENT, "if entries and entries[0] == init", "if False", f"{PUBLISH}.test_begin_alone"),
+    "a record may be said to stand anywhere": (
+        SENT, "if found.place != len(at.envelopes) or found.leaf < at.length:", "if False:",
+        f"{HOSTILE}.test_answers"),
+    "a record that is served may have no leaf": (
+        SENT, "if place is None:", "if False:", f"{HOSTILE}.test_leaf_denied"),
+    "an answer of another record is taken": (
+        "registry/answers.py", '!= (log_id, record_id):', "is None:", f"{HOSTILE}.test_answers"),
+    "an index is any number": (
+        "registry/answers.py", "if not all(0 <= it < 2**63 for it in found):", "if False:",
+        f"{HOSTILE}.test_answers"),
+    "a key with too many logs may come later": (
+        "registry/answers.py", 'is_often and problem.name != "TooManyLogs"', "is_often",
+        f"{REFUSALS}.test_refused"),
+    "a proxy that is asked too often refuses": (
+        "registry/answers.py", "(is_often and answer.headers.get_content_type() != _DOCUMENT)", "False",
+        f"{REFUSALS}.test_later"),
+    "serve is the program's word": (
+        "_program.py", 'if sys.argv[1:2] == ["serve"]:', "if False:", "test_native.Program.test_serve"),
     # Calls
     "the place is one too great": (
         "trees.py", "return place.value", "return place.value + 1", f"{DEFINED}.test_each_length"),

@@ -12,7 +12,7 @@ import re
 import stat
 import sys
 import time
-from collections.abc import Iterable
+from collections.abc import Callable, Iterable
 from typing import TYPE_CHECKING
 
 from . import records
@@ -76,12 +76,18 @@ def _split(words: str) -> tuple[str, str, str]:
     return verb, subject, rest
 
 
-def entry_of(kind: LogKind, words: str) -> bytes:
+def digest_of_text(content: str) -> str:
+    """The text of the digest of a content that is text."""
+    return records.sha256_text(content.encode())
+
+
+def entry_of(kind: LogKind, words: str, digest_of: Callable[[str], str] = digest_of_text) -> bytes:
     """The entry that words say: `init KEY`, `grant KEY PERMISSION..`, `revoke KEY_ID PERMISSION..`; of a package's log
     `release VERSION CONTENT` and `yank VERSION`; of an operator's `define NAMESPACE` and `import NAMESPACE REGISTRY`.
 
-    A KEY is the text of a key, and not its id. Of a release's content, which is text, the record has the digest. Raises
-    `NoRecord`, also of a word that is missing or too many: what is released can't be released again.
+    A KEY is the text of a key, and not its id. Of a release's content, which is text, the record has the digest, or
+    what `digest_of` gives for it. Raises `NoRecord`, also of a word that is missing or too many: what is released can't
+    be released again.
     """
     verb, subject, rest = _split(words)
     if verb in ("init", "grant") and (":" not in subject or subject.startswith("sha256:")):
@@ -99,7 +105,7 @@ def entry_of(kind: LogKind, words: str) -> bytes:
             case "revoke", _:
                 return records.revoke(kind, subject, rest.split())
             case "release", LogKind.PACKAGE:
-                return records.release(subject, records.sha256_text(rest.encode()))
+                return records.release(subject, digest_of(rest))
             case "yank", LogKind.PACKAGE:
                 return records.yank(subject)
             case "define", LogKind.OPERATOR:

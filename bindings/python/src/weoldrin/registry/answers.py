@@ -20,15 +20,17 @@ T = TypeVar("T")
 _SMALL, _LARGE = 262_144, 64 * 2**20
 # So many bytes of envelopes are taken of one log.
 _LONGEST_LOG = 256 * 2**20
+# The type of an error (RFC 9457).
+_DOCUMENT = "application/problem+json"
 _LEAF = re.compile(r"(sha256:[0-9a-f]{64}) (sha256:[0-9a-f]{64})")
 
 
 class Problem(Exception):
-    """A registry refuses what was asked. `name` is the error's."""
+    """A registry refuses what was asked. `name` is the error's, and `value` all that was said of it."""
 
-    def __init__(self, status: int, name: str, detail: str) -> None:
+    def __init__(self, status: int, name: str, detail: str, value: object = None) -> None:
         super().__init__(f"{status} {name}: {detail}")
-        self.status, self.name = status, name
+        self.status, self.name, self.value = status, name, value
 
 
 class Head(NamedTuple):
@@ -47,6 +49,13 @@ class Leaf(NamedTuple):
 
     log_id: str
     record_id: str
+
+
+class Published(NamedTuple):
+    """Where a record is said to stand: in its log, and its leaf in the registry's log."""
+
+    place: int
+    leaf: int
 
 
 class Fetched(NamedTuple):
@@ -153,6 +162,21 @@ class Registry:
                 raise BadAnswer("the log is too long")
             more = _has_more(answer, len(envelopes))
 
+    def publish(self, name: str, log_id: str, record_id: str, envelope: bytes) -> Published:
+        """Sends the envelope of a package's record, and gives where it is said to stand. The same may be sent again: it
+        stands once. Raises a `Problem` where it does not stand, and `NoAnswer` where that is not known."""
+        headers = {"Content-Type": "application/protobuf"}
+        path = f"/v1/package/{name}/record"
+        answer = asking.ask(self._address, path, envelope, headers, longest=_SMALL, seconds=self._seconds)
+        if answer.status == 201:
+            return _published(asking.json_of(answer.body), log_id, record_id)
+        error = _problem_of(answer)
+        if isinstance(error, Problem) and error.name == "NotNext":
+            assert isinstance(error.value, dict)
+            if "published" in error.value:
+                return _published(error.value["published"], log_id, record_id)
+        raise error
+
     def fetch(self, counts: dict[str, int]) -> Fetched:
         """Envelopes of many logs, from so many records on of each."""
         body = json.dumps({"logs": counts}).encode()
@@ -171,17 +195,30 @@ class Registry:
         answer = asking.ask(self._address, path, body, headers, longest=longest, seconds=self._seconds)
         if answer.status == 200:
             return answer
-        if 300 <= answer.status < 400:
-            raise BadAnswer(f"the answer leads elsewhere, with status {answer.status}, which is not followed")
         raise _problem_of(answer)
 
 
 def _problem_of(answer: Answer) -> Exception:
     """What an answer of another status says. One that may be had later is none."""
-    if answer.status in (408, 429) or answer.status >= 500:
-        return NoAnswer(f"the registry can't answer now, with status {answer.status}")
+    if 300 <= answer.status < 400:
+        return BadAnswer(f"the answer leads elsewhere, with status {answer.status}, which is not followed")
+    later = NoAnswer(f"the registry can't answer now, with status {answer.status}")
+    is_often = answer.status == 429
+    if answer.status == 408 or answer.status >= 500 or (is_often and answer.headers.get_content_type() != _DOCUMENT):
+        return later
     value = asking.json_of(answer.body)
-    return Problem(answer.status, member(value, "name", str), member(value, "detail", str))
+    problem = Problem(answer.status, member(value, "name", str), member(value, "detail", str), value)
+    return later if is_often and problem.name != "TooManyLogs" else problem
+
+
+def _published(value: object, log_id: str, record_id: str) -> Published:
+    """Where a record stands by an object. Raises `BadAnswer` where it is of another one."""
+    if (member(value, "logId", str), member(value, "recordId", str)) != (log_id, record_id):
+        raise BadAnswer("the answer is of another record than was sent")
+    found = Published(member(value, "place", int), member(value, "registryIndex", int))
+    if not all(0 <= it < 2**63 for it in found):
+        raise BadAnswer("a place of the answer is none")
+    return found
 
 
 def _path(name: str, **words: str | int | None) -> str:

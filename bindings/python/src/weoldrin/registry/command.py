@@ -1,4 +1,4 @@
-"""The words `fetch`, `lock`, `check`, `monitor` and `gossip` of the command `weoldrin`."""
+"""The words `fetch`, `publish`, `lock`, `check`, `monitor` and `gossip` of the command `weoldrin`."""
 
 import argparse
 import json
@@ -7,7 +7,7 @@ import os
 from .._words import Once, Words
 from ..errors import NoLibrary
 from ..printing import print_lines, tell
-from . import fetch, gossip, lock, monitor
+from . import fetch, gossip, lock, monitor, publishing
 from .answers import Problem
 from .following import OLDEST
 from .told import NoAnswer, NoPackage, Told, Unusable, Unwritten
@@ -50,6 +50,7 @@ def _parser() -> argparse.ArgumentParser:
     command.add_argument("name", metavar="NAME", help="the package's, as example:math")
     command.add_argument("--out", action=Once, metavar="LOG", help="the log's file, which is gone on from; - prints it")
     _add_common(command)
+    _add_publish(added("publish", "publishes a record of a package's log, which begins by it where there is none"))
     command = added("lock", "locks the versions that meet requirements")
     command.add_argument("url", metavar="URL")
     command.add_argument("requirements", metavar="REQUIREMENTS", help="a file of lines: NAME and a requirement")
@@ -69,6 +70,16 @@ def _parser() -> argparse.ArgumentParser:
     return parser
 
 
+def _add_publish(command: argparse.ArgumentParser) -> None:
+    command.add_argument("url", metavar="URL")
+    command.add_argument("name", metavar="NAME", help="the package's, as example:math")
+    words = "as make takes them, as 'yank 1.0.0', but 'release VERSION FILE', with a file or its digest as sha256:.."
+    command.add_argument("entries", nargs="*", metavar="ENTRY", help=words)
+    made = "the private key, as PEM, which is made where it is not there and the log begins"
+    command.add_argument("--key", action=Once, required=True, metavar="FILE", help=made)
+    _add_common(command)
+
+
 def _add_monitor(command: argparse.ArgumentParser) -> None:
     command.add_argument("url", metavar="URL")
     command.add_argument("--database", action=Once, required=True, metavar="FILE", help="what is seen, in SQLite")
@@ -86,6 +97,7 @@ def _add_monitor(command: argparse.ArgumentParser) -> None:
 
 _RUN = {
     "fetch": fetch.run,
+    "publish": publishing.run,
     "lock": lock.run_lock,
     "check": lock.run_check,
     "monitor": monitor.run,
