@@ -17,7 +17,9 @@ from .served import REPOSITORY, Client, Process
 
 FOLDER, PACKAGE = REPOSITORY / "registry", "weoldrin_registry"
 # What stands in a page or a module for another file that it loads.
-LOADED = re.compile(r"""(?:src|href)="([\w./-]+)"|(?:from |URL\(|part\("\w+", )"(\.[\w./-]+)\"""")
+LOADED = re.compile(
+    r"""(?:src|href)="([\w./-]+)"|(?:from |import\(|part\("\w+", )"(\.[\w./-]+)"|URL\("([\w./-]+\.js)", import"""
+)
 IS_THERE = (REPOSITORY / "web/index.html").is_file() and all(map(importlib.util.find_spec, ("pip", "hatchling")))
 
 
@@ -93,8 +95,8 @@ class Installed(unittest.TestCase):
         self.lines = process.lines
         return client
 
-    def _look(self, client: Client) -> int:
-        """Follows the page to all that it loads, each with the bytes of the repository. Gives how many files it is."""
+    def _look(self, client: Client) -> None:
+        """Follows the page to all that it loads, each of which has the bytes of the repository."""
         answer = client.get("/")
         self.assertEqual((answer.status, answer.headers.get("location")), (307, "/static/web/index.html"))
         left, seen = ["web/index.html"], set[str]()
@@ -110,8 +112,7 @@ class Installed(unittest.TestCase):
                 # What a page names is beside it, and what a script asks for is beside the page.
                 left += [os.path.normpath(f"{self._beside(path, it)}/{it}") for it in found]
         self.assertLessEqual({"web/src/main.js", "web/style.css", "bindings/js/src/index.js"}, seen)
-        self.assertLessEqual({"dist/wasm/libwarg.wasm", "examples/p256/package.hex"}, seen)
-        return len(seen)
+        self.assertLessEqual({"web/src/worker.js", "dist/wasm/libwarg.wasm", "examples/p256/package.hex"}, seen)
 
     @staticmethod
     def _beside(path: str, name: str) -> str:
@@ -120,7 +121,7 @@ class Installed(unittest.TestCase):
     def test_wheel(self) -> None:
         """The wheel has the page, and nothing of its tests."""
         install(self.installed, FOLDER)
-        self.assertGreater(self._look(self._started()), 30)
+        self._look(self._started())
         within = self.installed / PACKAGE / "_page"
         self.assertEqual(sorted(os.listdir(within / "web")), ["index.html", "src", "style.css"])
         self.assertNotIn("the page is not served", self.lines.read_text(encoding="utf-8"))

@@ -7,6 +7,7 @@ import unittest
 from unittest import mock
 
 from weoldrin import PackageLog, log_id, p256, records
+from weoldrin.making import NoRecord
 from weoldrin.registry import Follower, Trust, asking, publish, publishing
 from weoldrin.registry import Registry as Asked
 from weoldrin.registry.told import NoAnswer
@@ -111,17 +112,21 @@ class Publish(PublishTest):
         path.write_bytes(b"x" * 3_000_000)
         self.assertEqual(publishing.digest_of_file(str(path)), records.sha256_text(b"x" * 3_000_000))
         os.mkfifo(self.folder / "pipe")
-        self.assertRaises(publishing.NoRecord, publishing.digest_of_file, str(self.folder / "pipe"))
+        self.assertRaises(NoRecord, publishing.digest_of_file, str(self.folder / "pipe"))
 
     def test_keys(self) -> None:
         """No key is made for a log that has begun, none over a file, and one that may not sign is told by the log."""
         status, printed, said = self.publish(self.released)
         self.assertEqual((status, printed, pathlib.Path(self.key).exists()), (2, "", False))
         self.assertIn("a new key can't sign for it", said)
-        for made in (lambda path: path.write_bytes(b""), lambda path: path.symlink_to(self.folder / "none")):
-            made(pathlib.Path(self.key))
+        path = pathlib.Path(self.key)
+        for is_link in (False, True):
+            if is_link:
+                path.symlink_to(self.folder / "none")
+            else:
+                path.touch()
             self.assertEqual(self.publish(self.released, name="a:new")[:2], (2, ""))
-            pathlib.Path(self.key).unlink()
+            path.unlink()
         p256.SigningKey.generate().save_new(self.key)
         status, printed, said = self.publish(self.released)
         self.assertEqual((status, printed), (1, "refused 4 UnauthorizedAction\n"))
@@ -317,13 +322,13 @@ class Hostile(PublishTest):
         wrong: list[Reply] = [(201, {}, b""), (201, {}, b"{}"), (201, {}, b"[" * 9_000), (302, {"Location": "/"}, b"")]
         wrong += [(200, {}, b"{}"), (409, {}, b"NotNext"), (404, {}, b"{}"), problem(409, "NotNext", published=7)]
         for it in wrong:
-            self._refused(lambda path, query, reply, of=it: of)
+            self._refused(lambda *_: it)
         other = records.sha256_text(b"other")
         members: list[dict[str, object]] = [{"recordId": other}, {"logId": TWO}, {"registryIndex": "12"}]
         members += [{"registryIndex": it} for it in (True, -1, 2**63, 11, None)]
         members += [{"place": it} for it in (3, 5, None)]
         for more in members:
-            self._refused(lambda path, query, reply, of=more: _lying(reply, of))
+            self._refused(lambda path, query, reply: _lying(reply, more))
 
     def _refused(self, twist: registries.Twist) -> None:
         self.twisted(twist)
