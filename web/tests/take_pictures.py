@@ -8,8 +8,8 @@ import tempfile
 
 import logs
 from browsers import Chromium, begun, end_all
-from logs import EXAMPLES
 from canned import Canned
+from logs import EXAMPLES
 from page import JUDGED
 from served import ROOT, Edited, Served
 from small_png import smaller

@@ -8,8 +8,9 @@ from unittest import mock
 
 from weoldrin import PackageLog, log_id, p256, records
 from weoldrin.making import NoRecord
-from weoldrin.registry import Follower, Trust, asking, publish, publishing
+from weoldrin.registry import Follower
 from weoldrin.registry import Registry as Asked
+from weoldrin.registry import Trust, asking, publish, publishing
 from weoldrin.registry.told import NoAnswer
 
 from . import registries
