@@ -141,7 +141,7 @@ class Installed(unittest.TestCase):
 
     def test_editable(self) -> None:
         """An editable install copies nothing, and leads to the repository."""
-        run("pip", "wheel", "-q", "--no-deps", "--no-build-isolation", "--wheel-dir", self.folder, "--editable", FOLDER)
+        run("hatchling", "build", "-t", "wheel:editable", "-d", self.folder)
         (wheel,) = self.folder.glob("*.whl")
         run("zipfile", "-e", str(wheel), str(self.installed))
         self.assertFalse((self.installed / PACKAGE).exists())
