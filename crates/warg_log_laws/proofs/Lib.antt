@@ -1,6 +1,8 @@
 pub mod ListLemmas
 pub mod HistoryEntries
 pub mod RisingPlaces
+pub mod ChainsBack
+pub mod OneChain
 pub mod ChainWords
 pub mod Holdings
 pub mod EntryWalks

@@ -1,9 +1,8 @@
 -- Facts on lists and their places.
-use Rattle.std.proofs.Common.{◌≡◌, ℕ, zero, suc, ◌+◌, ◌<◌, Bool, true, false, cond, true≢false, List, [], ◌∷◌, ◌++◌, length, take, map, reverse, Some, None, refl, sym, ap, ◌∙◌, subst, arith}
-use Rattle.std.specs.Prelude.{slice_get, Contains, filter}
+use Rattle.std.proofs.Common.{◌≡◌, ℕ, zero, suc, ◌+◌, ◌<◌, Bool, true, false, cond, true≢false, List, [], ◌∷◌, ◌++◌, length, take, drop, map, reverse, Some, None, refl, sym, ap, ◌∙◌, subst, arith}
+use Rattle.std.specs.Prelude.{slice_get, filter}
 use Rattle.std.specs.List.{AllByRecursion, enumerate_from}
 use Rattle.std.proofs.lemmas.List.{reverse-append}
-use Rattle.std.proofs.lemmas.Option.{slice_get_within, get_or_from_slice_get}
 
 pub same_item : {A : Type 0} (x y : A) → Some x ≡ Some y → x ≡ y
 same_item x y h = cc
@@ -34,6 +33,16 @@ take-take xs (suc i) zero h = absurd (omega (arith, h))
 take-take [] (suc i) (suc n) h = refl
 take-take (x ∷ xs) (suc i) (suc n) h = ap (λ l. x ∷ l) (take-take xs i n (omega (arith, h)))
 
+pub split_at : {A : Type 0} (xs : List A) (n : ℕ) (x : A) → slice_get xs n ≡ Some x → xs ≡ take n xs ++ x ∷ drop (suc n) xs
+split_at [] n x h = no_item x h
+split_at (y ∷ ys) zero x h = ap (λ z. z ∷ ys) (same_item y x h)
+split_at (y ∷ ys) (suc n) x h = ap (λ l. y ∷ l) (split_at ys n x h)
+
+pub dropped_at : {A : Type 0} (xs : List A) (n i : ℕ) → slice_get (drop n xs) i ≡ slice_get xs (n + i)
+dropped_at xs zero i = let is : i ≡ 0 + i = omega arith in ap (slice_get xs) is
+dropped_at [] (suc n) i = refl
+dropped_at (x ∷ xs) (suc n) i = let is : suc (n + i) ≡ suc n + i = omega arith in dropped_at xs n i ∙ ap (slice_get (x ∷ xs)) is
+
 pub take_next : {A : Type 0} (xs : List A) (n : ℕ) (x : A) → slice_get xs n ≡ Some x → take (suc n) xs ≡ take n xs ++ x ∷ []
 take_next [] n x h = no_item x h
 take_next (y ∷ ys) zero x h = ap (λ z. z ∷ []) (same_item y x h)
@@ -48,9 +57,6 @@ enumerated_at m (y ∷ ys) (suc n) x h =
     let m_is : (m + 1) + n ≡ m + suc n = omega arith in
     enumerated_at (m + 1) ys n x h ∙ ap (λ k. Some (k, x)) m_is
 
-pub contains_at : {A : Type 0} (xs : List A) (n : ℕ) (x : A) → slice_get xs n ≡ Some x → Contains xs x
-contains_at xs n x h = (n, slice_get_within xs n x h, get_or_from_slice_get xs n x x h)
-
 pub reverse-cons : {A : Type 0} (x : A) (xs : List A) → reverse (x ∷ xs) ≡ reverse xs ++ x ∷ []
 reverse-cons x xs = reverse-append (x ∷ []) xs
 
@@ -62,6 +68,14 @@ module _ {A : Type 0} where
   pub each-append : (P : A → Type 0) (xs ys : List A) → AllByRecursion P xs → AllByRecursion P ys → AllByRecursion P (xs ++ ys)
   each-append P [] ys h g = g
   each-append P (x ∷ xs) ys h g = (h.0, each-append P xs ys h.1 g)
+
+  pub each-rest : (P : A → Type 0) (xs ys : List A) → AllByRecursion P (xs ++ ys) → AllByRecursion P ys
+  each-rest P [] ys h = h
+  each-rest P (x ∷ xs) ys h = each-rest P xs ys h.1
+
+  pub each-from : (P : A → Type 0) (xs : List A) → ((i : ℕ) (x : A) → slice_get xs i ≡ Some x → P x) → AllByRecursion P xs
+  each-from P [] h = tt
+  each-from P (x ∷ xs) h = (h 0 x refl, each-from P xs (λ i y at. h (suc i) y at))
 
   pub each-at : (P : A → Type 0) (xs : List A) → AllByRecursion P xs → (n : ℕ) (x : A) → slice_get xs n ≡ Some x → P x
   each-at P [] h n x at = no_item x at

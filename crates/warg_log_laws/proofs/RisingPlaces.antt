@@ -1,5 +1,5 @@
 -- The entries of a history stand in the order of their places.
-use Rattle.std.proofs.Common.{◌≡◌, ◌⊎◌, inl, inr, ℕ, zero, suc, ◌+◌, ◌<◌, ◌≤◌, List, [], ◌∷◌, ◌++◌, map, Some, refl, sym, ap, ◌∙◌, subst, arith}
+use Rattle.std.proofs.Common.{◌≡◌, ◌⊎◌, inl, inr, ℕ, zero, suc, ◌+◌, ◌<◌, ◌≤◌, List, [], ◌∷◌, ◌++◌, map, Some, refl, sym, ap, subst, arith}
 use Rattle.std.specs.Prelude.{slice_get}
 use Rattle.std.specs.List.{AllByRecursion, flat_map, enumerate_from}
 use Rattle.std.proofs.lemmas.List.Concat.{flat_map-cons}
@@ -11,16 +11,12 @@ use Rattle.warg_log.specs.Rules.{SignedRecord}
 use Rattle.warg_log_laws.specs.GrantChains.{place_of, IsBefore}
 use Rattle.warg_log_laws.proofs.ListLemmas.{same_item, no_item, each-weaker, each-append, each-at}
 
-never_before_itself : (l m : Link) → l ≡ m → IsBefore l m → ⊥
-never_before_itself l m is (inl lt) = let same : l.record_index ≡ m.record_index = ap (λ (x : Link). x.record_index) is in omega (arith, lt, same)
-never_before_itself l m is (inr h) = let same : l.entry_index ≡ m.entry_index = ap (λ (x : Link). x.entry_index) is in let lt = h.1 in omega (arith, lt, same)
-
 -- nothing comes before the first place
 pub none_before_first : (l m : Link) → m ≡ record { record_index = 0; entry_index = 0 } → IsBefore l m → ⊥
 none_before_first l m is (inl lt) = let zero_is : m.record_index ≡ 0 = ap (λ (x : Link). x.record_index) is in omega (arith, lt, zero_is)
 none_before_first l m is (inr h) = let zero_is : m.entry_index ≡ 0 = ap (λ (x : Link). x.entry_index) is in let lt = h.1 in omega (arith, lt, zero_is)
 
-compared : (i j : ℕ) → (i < j) ⊎ ((j < i) ⊎ (i ≡ j))
+pub compared : (i j : ℕ) → (i < j) ⊎ ((j < i) ⊎ (i ≡ j))
 compared zero zero = inr (inr refl)
 compared zero (suc j) = inl (omega arith)
 compared (suc i) zero = inr (inl (omega arith))
@@ -42,6 +38,10 @@ module _ {A : Type 0} where
   rises-append [] ys h g between = g
   rises-append (x ∷ xs) ys h g between = (each-append (λ y. IsBefore (place_of x) (place_of y)) xs ys h.0 between.0, rises-append xs ys h.1 g between.1)
 
+  pub rises-rest : (xs ys : List (PlacedEvent A)) → Rises (xs ++ ys) → Rises ys
+  rises-rest [] ys r = r
+  rises-rest (x ∷ xs) ys r = rises-rest xs ys r.1
+
   -- of two places in the list the earlier one has the entry that comes before
   pub rises-at : (h : List (PlacedEvent A)) → Rises h → (i j : ℕ) (x y : PlacedEvent A) → i < j → slice_get h i ≡ Some x → slice_get h j ≡ Some y → IsBefore (place_of x) (place_of y)
   rises-at [] r i j x y lt at_x at_y = no_item x at_x
@@ -50,16 +50,6 @@ module _ {A : Type 0} where
       subst (λ (z : PlacedEvent A). IsBefore (place_of z) (place_of y)) (same_item e x at_x) (each-at (λ y. IsBefore (place_of e) (place_of y)) es r.0 j y at_y)
   rises-at (e ∷ es) r (suc i) zero x y lt at_x at_y = absurd (omega (arith, lt))
   rises-at (e ∷ es) r (suc i) (suc j) x y lt at_x at_y = rises-at es r.1 i j x y (omega (arith, lt)) at_x at_y
-
-  -- two entries at one place are one
-  pub rises-one : (h : List (PlacedEvent A)) → Rises h → (i j : ℕ) (x y : PlacedEvent A) → slice_get h i ≡ Some x → slice_get h j ≡ Some y → place_of x ≡ place_of y → x ≡ y
-  rises-one h r i j x y at_x at_y is = elim (compared i j) [
-    | inl lt ↦ absurd (never_before_itself (place_of x) (place_of y) is (rises-at h r i j x y lt at_x at_y))
-    | inr rest ↦ elim rest [
-      | inl gt ↦ absurd (never_before_itself (place_of y) (place_of x) (sym is) (rises-at h r j i y x gt at_y at_x))
-      | inr one ↦ same_item x y (sym at_x ∙ ap (slice_get h) one ∙ at_y)
-    ]
-  ]
 
 module _ {P O : Type 0} (id_of : List ℕ → RecordId) where
   abbrev IsIn : ℕ → ℕ → PlacedEvent (EntryData P O) → Type 0

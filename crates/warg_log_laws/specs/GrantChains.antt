@@ -1,11 +1,11 @@
 -- How a key came to hold a permission, in the words of a log's history.
-use Rattle.std.specs.Prelude.{◌≡◌, ◌⊎◌, ℕ, ◌<◌, List, [], ◌∷◌, map, Bool, true, Some, All, AllPairs, Contains, slice_get}
+use Rattle.std.specs.Prelude.{◌≡◌, ◌⊎◌, ℕ, ◌<◌, List, [], ◌∷◌, ◌++◌, map, Bool, true, None, All, AllPairs}
 use Rattle.warg_crypto.specs.NamedBytes.{fingerprint_of}
 use Rattle.warg_permissions.specs.Permissions.{lists}
 use Rattle.warg_log_records.specs.RecordData.{EntryData, Init, GrantFlat, RevokeFlat}
 use Rattle.warg_replay.specs.declared.audited_log.link.Link.{Link}
-use Rattle.warg_log.specs.Forms.{inits}
-use Rattle.warg_log.specs.History.{PlacedEvent}
+use Rattle.warg_log.specs.Forms.{is_init}
+use Rattle.warg_log.specs.History.{PlacedEvent, entry_on}
 
 -- where an entry stands
 abbrev pub place_of : {A : Type 0} → PlacedEvent A → Link
@@ -25,20 +25,26 @@ module _ {P O : Type 0} (same : P → P → Bool) (p : P) where
   IsGrantTo k (EntryData.Shared (RevokeFlat id permissions)) = ⊥
   IsGrantTo k (EntryData.Own o) = ⊥
 
-  -- by the grants p went from giver to k: each is signed by the key that the one before it is to, the first
-  -- by giver
-  abbrev pub PassOn : List ℕ → List (PlacedEvent (EntryData P O)) → List ℕ → Type 0
-  PassOn giver [] k = giver ≡ k
-  PassOn giver (e ∷ es) k = (e.event.signer ≡ giver)
-      × ((taker : List ℕ) × IsGrantTo taker e.event.entry × PassOn taker es k)
+  -- no entry of h gives p to k or takes it
+  abbrev pub AreSilentOn : List ℕ → List (PlacedEvent (EntryData P O)) → Type 0
+  AreSilentOn k h = All (λ e. entry_on same k p e.event.signer e.event.entry ≡ None) h
 
-  -- at the links stand entries of the history, one before the other: its first Init, and then grants by
-  -- which p went from that Init's signer to k
+  -- by the grants, in turn in h, p went from giver to k: each is signed by the key that the one before it is to, the
+  -- first by giver, and no entry in between gives p to that key or takes it; nor does one after the last
+  abbrev pub PassOn : List (PlacedEvent (EntryData P O)) → List ℕ → List (PlacedEvent (EntryData P O)) → List ℕ → Type 0
+  PassOn h giver [] k = (giver ≡ k) × AreSilentOn giver h
+  PassOn h giver (e ∷ es) k = (between : List (PlacedEvent (EntryData P O))) × (after : List (PlacedEvent (EntryData P O)))
+      × (h ≡ between ++ e ∷ after) × AreSilentOn giver between × (e.event.signer ≡ giver)
+      × ((taker : List ℕ) × IsGrantTo taker e.event.entry × PassOn after taker es k)
+
+  -- at the links stand the Init that begins the history and the grants by which p went from its signer to k: each is
+  -- the last entry before the next that gives p to its key or takes it
   pub record IsChainOfGrants (h : List (PlacedEvent (EntryData P O))) (k : List ℕ) (links : List Link) : Type 0 where
     pub init : PlacedEvent (EntryData P O)
+    pub later : List (PlacedEvent (EntryData P O))
     pub grants : List (PlacedEvent (EntryData P O))
     pub places : map place_of (init ∷ grants) ≡ links
-    pub within : All (Contains h) (init ∷ grants)
     pub rising : AllPairs IsBefore links
-    pub first : slice_get (inits h) 0 ≡ Some init
-    pub passed : PassOn init.event.signer grants k
+    pub begins : h ≡ init ∷ later
+    pub first : is_init init.event.entry ≡ true
+    pub passed : PassOn later init.event.signer grants k

@@ -55,13 +55,20 @@ pub fn chains_where_held<L: RuledLog>()
         is_some chain ≡ (L.says s).state.authority.holds k p }
 {}
 
-/// A chain of an accepted log leads from its first Init to the key: each later link is a grant that lists
-/// the permission, signed by the key to which the link before gave it, at a later place.
+/// A chain of an accepted log leads from its Init to the key: each later link is a grant that lists the
+/// permission, signed by the key to which the link before gave it, and each is the last entry on that key and
+/// the permission before the next. The key has one chain where it holds the permission, and else none.
 pub fn chains_of_grants<L: RuledLog>()
-    ensures { (b : SignatureRelation) (es : List EnvelopeData) → IsAccepted (kind L.ruled) b es →
-        (k : List ℕ) (p : L.Permission) (links : List Link) →
-        IsChainAnswer (effects L.ruled) es k p (Some links) →
-        IsChainOfGrants L.ruled es k p links }
+    ensures answer { (b : SignatureRelation) (es : List EnvelopeData) →
+        IsAccepted (kind L.ruled) b es → (k : List ℕ) (p : L.Permission) (links : List Link) →
+        IsChainAnswer (effects L.ruled) es k p (Some links) ↔ IsChainOfGrants L.ruled es k p links }
+    ensures held { (b : SignatureRelation) (es : List EnvelopeData) →
+        IsAccepted (kind L.ruled) b es → (k : List ℕ) (p : L.Permission) (links : List Link) →
+        IsChainOfGrants L.ruled es k p links → is_held L.ruled es k p ≡ true }
+    ensures one { (b : SignatureRelation) (es : List EnvelopeData) →
+        IsAccepted (kind L.ruled) b es → (k : List ℕ) (p : L.Permission)
+        (links : List Link) → IsChainOfGrants L.ruled es k p links →
+        (others : List Link) → IsChainOfGrants L.ruled es k p others → others ≡ links }
 {}
 
 /// A permission is extinct exactly where no key holds it, by the log's history and by a state that stands
