@@ -86,11 +86,18 @@ pub fn one_holding<L: RuledLog>()
     laws::holding::<L>();
 }
 
-/// A chain of an accepted log is one of grants.
+/// The chain of an accepted log is one of grants, and no others are.
 pub fn chains_of_grants<L: RuledLog>()
-    ensures { (b : SignatureRelation) (es : List EnvelopeData) → IsAccepted (kind L.ruled) b es →
-        (k : List ℕ) (p : L.Permission) (links : List OfLink) →
-        IsChainAnswer (effects L.ruled) es k p (Some links) → IsChainOfGrants L.ruled es k p links }
+    ensures answer { (b : SignatureRelation) (es : List EnvelopeData) →
+        IsAccepted (kind L.ruled) b es → (k : List ℕ) (p : L.Permission) (links : List OfLink) →
+        IsChainAnswer (effects L.ruled) es k p (Some links) ↔ IsChainOfGrants L.ruled es k p links }
+    ensures held { (b : SignatureRelation) (es : List EnvelopeData) →
+        IsAccepted (kind L.ruled) b es → (k : List ℕ) (p : L.Permission) (links : List OfLink) →
+        IsChainOfGrants L.ruled es k p links → is_held L.ruled es k p ≡ true }
+    ensures one { (b : SignatureRelation) (es : List EnvelopeData) →
+        IsAccepted (kind L.ruled) b es → (k : List ℕ) (p : L.Permission)
+        (links : List OfLink) → IsChainOfGrants L.ruled es k p links →
+        (others : List OfLink) → IsChainOfGrants L.ruled es k p others → others ≡ links }
 {
     laws::chains_of_grants::<L>();
 }

@@ -106,11 +106,17 @@ pub fn one_holding()
     laws::holding::<LogState>();
 }
 
-/// A chain of an accepted log is one of grants.
+/// The chain of an accepted log is one of grants, and no others are.
 pub fn chains_of_grants()
-    ensures { (b : SignatureRelation) (es : List EnvelopeData) → IsAccepted kind b es →
+    ensures answer { (b : SignatureRelation) (es : List EnvelopeData) → IsAccepted kind b es →
         (k : List ℕ) (p : OfPermission) (links : List OfLink) →
-        IsChainAnswer effects es k p (Some links) → IsChainOfGrants ruled es k p links }
+        IsChainAnswer effects es k p (Some links) ↔ IsChainOfGrants ruled es k p links }
+    ensures held { (b : SignatureRelation) (es : List EnvelopeData) → IsAccepted kind b es →
+        (k : List ℕ) (p : OfPermission) (links : List OfLink) →
+        IsChainOfGrants ruled es k p links → is_held ruled es k p ≡ true }
+    ensures one { (b : SignatureRelation) (es : List EnvelopeData) → IsAccepted kind b es →
+        (k : List ℕ) (p : OfPermission) (links : List OfLink) → IsChainOfGrants ruled es k p links →
+        (others : List OfLink) → IsChainOfGrants ruled es k p others → others ≡ links }
 {
     laws::chains_of_grants::<LogState>();
 }
