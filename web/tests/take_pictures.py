@@ -56,7 +56,7 @@ def take_all(pictures: Pictures, folder: pathlib.Path) -> None:
     browser = pictures.browser
     pictures.begin(720, 800)
     pictures.drop(EXAMPLES / "p256/package.hex", are_toys=False)
-    pictures.take("web-verdict", "body", ".columns")
+    pictures.take("web-verdict", "#results", ".columns")
     pictures.take("web-records", "#shown", ".columns")
     browser.run("document.getElementById('tab-keys').click()")
     pictures.take("web-keys", "#shown", ".tree li")
