@@ -7,4 +7,5 @@ pub mod RegistryProofs
 pub mod RegistryTreesKept
 pub mod SameProofs
 pub mod SavedLeavesLemmas
+pub mod ShownTwiceLemmas
 pub mod TextLemmas

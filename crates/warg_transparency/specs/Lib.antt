@@ -6,6 +6,7 @@ pub mod MapTree
 pub mod ProofJson
 pub mod RegistryTrees
 pub mod SavedLeaves
+pub mod ShownTwice
 pub mod Standings
 pub mod Texts
 pub mod Views

@@ -3,6 +3,7 @@
 #![tactic(auto)]
 
 mod checkpoint;
+mod contradictions;
 mod decode;
 mod encode;
 mod error;
@@ -20,6 +21,10 @@ mod saved_leaves;
 mod text;
 
 pub use checkpoint::OfTrees;
+pub use contradictions::{
+    BeginningComparison, HeadComparison, ShownBeginning, ShownHead, compare_beginnings,
+    compare_heads,
+};
 pub use error::{ProofTextError, SavedLeavesError};
 pub use forks::{
     CheckpointComparison, LeafComparison, ShownLeaf, compare_checkpoints, compare_leaves,

@@ -5,6 +5,7 @@ ghost use Rattle.sha2.specs.Sha256.{sha256};
 ghost use Rattle.warg_merkle.specs.Trees.{Side};
 ghost use Rattle.warg_merkle.specs.SparseMap.Maps.{map_root, Leads, IsOwn};
 ghost use Rattle.warg_registry.specs.PrefixEncodings.{map_leaf_encoding_of};
+ghost use Rattle.warg_transparency.specs.Contradictions.{ShowsNothing};
 ghost use Rattle.warg_transparency.specs.Heads.{head_leaf, ShowsHead, ShowsLeaf};
 
 use crate::encode::{hash_bytes, key_of, map_leaf_bytes};
@@ -41,6 +42,7 @@ pub fn verify_absence(log_id: &LogId, proof: &MapProof, root: &AnyHash) -> bool
     ensures sound { IsTrue result → (m : List Side → Option (List ℕ)) →
         map_root sha256 256 m ≡ root.now.bytes →
         IsOwn sha256 m None log_id.now.hash.bytes proof.now }
+    ensures shown { IsTrue result → ShowsNothing root.now log_id.now proof.now }
 {
     let key = key_of(log_id);
     warg_merkle::map_proof::verify_absence(&key, proof.short(), &hash_bytes(root))
@@ -78,6 +80,7 @@ pub fn verify_no_head(checkpoint: &Checkpoint, log_id: &LogId, proof: &MapProof)
     ensures sound { IsTrue result → (m : List Side → Option (List ℕ)) →
         map_root sha256 256 m ≡ checkpoint.now.map_root.bytes →
         IsOwn sha256 m None log_id.now.hash.bytes proof.now }
+    ensures shown { IsTrue result → ShowsNothing checkpoint.now.map_root log_id.now proof.now }
 {
     verify_absence(log_id, proof, &checkpoint.map_root)
 }

@@ -47,7 +47,7 @@ impl Model for RegistryTrees {
 }
 
 // A hash is of 32 bytes: what its type promises, as a fact.
-fn hash_range(hash: &AnyHash)
+pub(crate) fn hash_range(hash: &AnyHash)
     ensures { IsHash hash.now }
 {
     let _bytes = hash.bytes();

@@ -1,5 +1,7 @@
 //! Tests of `warg_transparency` for what no row of the conformance suite says: checks under a
-//! checkpoint, forks, what a map holds, JSON of proofs.
+//! checkpoint, contradictions, forks, what a map holds, JSON of proofs.
+#[cfg(test)]
+mod contradictions;
 #[cfg(test)]
 mod forks;
 #[cfg(test)]

@@ -12,7 +12,14 @@ ghost use Rattle.warg_merkle.specs.Trees.{HaveCollision};
 ghost use Rattle.warg_transparency.specs.Heads.{ShowsLeaf, path_inputs_for};
 ghost use Rattle.warg_transparency.specs.Contradictions.{ShowsBeginning, ShowsLeafAt, ShowsNothing};
 ghost use Rattle.warg_transparency.specs.Contradictions.{beginning_inputs, leaf_inputs, nothing_inputs};
+ghost use Rattle.warg_transparency.specs.RegistryTrees.{IsCheckpointOf};
+ghost use Rattle.warg_transparency.specs.ShownTwice.{AreHeadAndNone, AreTwoHeads, IsBeginningCollision, IsBeginningFork};
+ghost use Rattle.warg_transparency.specs.ShownTwice.{head_inputs, inputs_of};
+ghost use Rattle.warg_transparency.specs.declared.contradictions.ShownBeginning.{ShownBeginning};
+ghost use Rattle.warg_transparency.specs.declared.contradictions.ShownHead.{ShownHead};
 
+use crate::laws::forks::one_checkpoint;
+use crate::laws::one_leaf;
 use warg_merkle::sparse_map::one_value;
 use warg_registry::laws::no_encoding_begins_another;
 
@@ -49,4 +56,32 @@ pub fn head_or_none()
         (nothing_inputs log_id other_proof) }
 {
     one_value();
+}
+
+/// What `compare_heads` calls two heads, or a head and none, is a collision: two strings that are hashed for the two proofs,
+/// at one place, differ and have one hash.
+pub fn head_collision()
+    ensures two { (root : AnyHash) (log_id : LogId) (one other : ShownHead) →
+        AreTwoHeads root log_id one other →
+        HaveCollision sha256 (head_inputs log_id one) (head_inputs log_id other) }
+    ensures one_and_none { (root : AnyHash) (log_id : LogId) (one other : ShownHead) →
+        AreHeadAndNone root log_id one other →
+        HaveCollision sha256 (head_inputs log_id one) (head_inputs log_id other) }
+{
+    one_leaf();
+    head_or_none();
+}
+
+/// What `compare_beginnings` calls a collision is one: two strings that are hashed for the two proofs, at one place, differ
+/// and have one hash. Of what it calls a fork no list of leaves has both checkpoints.
+pub fn beginning_collision()
+    ensures collision { (new : Checkpoint) (one other : ShownBeginning) →
+        IsBeginningCollision new one other →
+        HaveCollision sha256 (inputs_of new one) (inputs_of new other) }
+    ensures fork { (new : Checkpoint) (one other : ShownBeginning) →
+        IsBeginningFork new one other → (leaves : List LogLeaf) →
+        IsCheckpointOf leaves one.checkpoint.now → IsCheckpointOf leaves other.checkpoint.now → ⊥ }
+{
+    one_beginning();
+    one_checkpoint();
 }
