@@ -25,7 +25,7 @@ OF_RUST = "rustc:amd64 libstd-rust-1.63:amd64 libllvm14:amd64 libstd-rust-dev".s
 # The tests that call the library. Those of files, processes and printed texts are told by x86-64, and by Go's.
 OF_CRATE = "checkpoints comparisons log_ids logs p256 p256_rows proofs signed times".split()
 OF_CRATE += "registry_memory registry_reference registry_rows registry_trees".split()
-OF_PACKAGE = "checkpoints comparisons log_ids logs proofs registry_rows transparency".split()
+OF_PACKAGE = "checkpoints comparisons contradictions log_ids logs proofs registry_rows transparency".split()
 
 
 def openssl_folder(hosts: Hosts, root: pathlib.Path) -> pathlib.Path | None:

@@ -78,6 +78,7 @@ function treesOf(count) {
 
 const kept = treesOf(5);
 const shown = { checkpoint: { ...checkpoint, logLength: 2n ** 40n }, logId: root, recordId: root, proof };
+const head = { recordId: root, proof: Buffer.alloc(32, 255).toString("base64") };
 
 /** The calls by a log, and whether they append to it. */
 const calls = (it) => ({
@@ -141,6 +142,11 @@ const calls = (it) => ({
   "warg_compare_checkpoints of nonsense": () => library.compareCheckpoints(checkpoint, checkpoint, "x"),
   warg_compare_leaves: () => library.compareLeaves(5, shown, { ...shown, recordId: logIds[0] }),
   "warg_compare_leaves of nonsense": () => library.compareLeaves(5, shown, { ...shown, proof: "x" }),
+  warg_compare_heads: () => library.compareHeads(root, root, head, { ...head, recordId: null }),
+  "warg_compare_heads of nonsense": () => library.compareHeads(root, root, head, { ...head, proof: "x" }),
+  warg_compare_beginnings: () => library.compareBeginnings(shown.checkpoint, { checkpoint, proof }, { checkpoint, proof }),
+  "warg_compare_beginnings of nonsense": () =>
+    library.compareBeginnings(shown.checkpoint, { checkpoint, proof }, { checkpoint, proof: "x" }),
   warg_version: () => library.version(),
 });
 /** The calls by the trees of a registry that change nothing. */

@@ -16,6 +16,7 @@ pub mod Appending
 pub mod RunLemmas
 pub mod ProofOutcomes
 pub mod ForkLemmas
+pub mod ContradictionLemmas
 pub mod ByStatus
 pub mod HeldByStatus
 pub mod RegistryTexts

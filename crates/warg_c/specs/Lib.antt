@@ -24,4 +24,5 @@ pub mod ProofFaults
 pub mod LogNames
 pub mod CheckpointAnswers
 pub mod ForkAnswers
+pub mod ContradictionAnswers
 pub mod Registries

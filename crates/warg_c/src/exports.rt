@@ -45,6 +45,7 @@ mod appending;
 mod chains;
 mod checkpoints;
 mod comparing;
+mod contradictions;
 mod forks;
 mod identifying;
 mod keys;

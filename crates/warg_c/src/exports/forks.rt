@@ -19,12 +19,12 @@ use warg_transparency::{
     CheckpointComparison, LeafComparison, LogProof, ShownLeaf, compare_checkpoints, compare_leaves,
 };
 
-// A checkpoint as a call says it.
+/// A checkpoint as a call says it.
 #[derive(Clone, Copy)]
-struct CheckpointText<'a> {
-    length: u64,
-    log_root: &'a [u8],
-    map_root: &'a [u8],
+pub(crate) struct CheckpointText<'a> {
+    pub(crate) length: u64,
+    pub(crate) log_root: &'a [u8],
+    pub(crate) map_root: &'a [u8],
 }
 
 // A leaf, with the log and the proof that are to show it, as a call says them.

@@ -1,0 +1,15 @@
+use Rattle.std.proofs.Common.{inl, inr, ap}
+use Rattle.std.specs.Prelude.{is_ok}
+use Rattle.std.proofs.lemmas.Result.{err_from_is_err_and}
+use Rattle.warg_c.proofs.ProofOutcomes.{errors_as}
+use Rattle.warg_c.proofs.exports.contradictions.answer_in.Goals as goal
+
+pub returns-in_err-head-clause-err : goal.returns-in_err-head-clause-err
+returns-in_err-head-clause-err c =
+    let p = err_from_is_err_and c.from_residual.result c.from_residual.ensures.1 in
+    rw (p.1, p.2) (errors_as _ _ _ _ c.in_err-head.field-0.0 (λ never. absurd never) (λ bad. inl bad) c.in_err-head.ensures.err)
+
+pub returns-in_err-proof-clause-err : goal.returns-in_err-proof-clause-err
+returns-in_err-proof-clause-err c =
+    let p = err_from_is_err_and c.from_residual-in_err-proof.result c.from_residual-in_err-proof.ensures.1 in
+    rw (p.1, p.2) (errors_as _ _ _ _ c.in_err-proof.field-0.0 (λ _. ap (λ r. is_ok r) c.in_ok-head.ensures.ok) (λ bad. inr bad) c.in_err-proof.ensures.err)
