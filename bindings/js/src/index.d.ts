@@ -1,5 +1,6 @@
 /** Checks the logs of a Warg package registry by a proved library, which verifies signatures of ECDSA P-256. */
 import type { Checkpoint, TimestampedCheckpoint } from "./checkpoints.js";
+import type { LogHead } from "./registry.js";
 
 /** Bytes: a `Uint8Array`, another view, or a buffer. */
 export type Bytes = ArrayBuffer | SharedArrayBuffer | ArrayBufferView;
@@ -120,6 +121,43 @@ export interface ShownLeaf {
   readonly proof: string;
 }
 
+/** How two answers about the last record of one log compare that are shown under one root of a registry's map. */
+export const HeadComparison: {
+  /** Both proofs hold, and the answers are one: one record, or none. */
+  readonly SAME: "same";
+  /** Both proofs hold, of two records: two strings collide. */
+  readonly TWO: "two";
+  /** Both proofs hold, of a record and of none: two strings collide. */
+  readonly ONE_AND_NONE: "one-and-none";
+  /** One of the proofs does not hold. */
+  readonly NOT_SHOWN: "not-shown";
+};
+export type HeadComparison = "same" | "two" | "one-and-none" | "not-shown";
+
+/** How two checkpoints of a registry compare that the log of a newer one is shown to begin with. */
+export const BeginningComparison: {
+  /** Both proofs hold, and the lengths and both roots are equal. */
+  readonly SAME: "same";
+  /**
+   * Both proofs hold, the lengths and the logs' roots are equal, and the maps' roots differ: no list of leaves has
+   * both. Two signatures show that the registry forked.
+   */
+  readonly FORK: "fork";
+  /** Both proofs hold, the lengths are equal, and the logs' roots differ: two strings collide. */
+  readonly COLLISION: "collision";
+  /** Both proofs hold, and the lengths differ: nothing is said against the two. */
+  readonly TWO_LENGTHS: "two-lengths";
+  /** One of the proofs does not hold. */
+  readonly NOT_SHOWN: "not-shown";
+};
+export type BeginningComparison = "same" | "fork" | "collision" | "two-lengths" | "not-shown";
+
+/** A checkpoint, and the proof, as `verifyConsistency` takes it, that the log of a newer one begins with its own. */
+export interface ShownBeginning {
+  readonly checkpoint: Checkpoint;
+  readonly proof: string;
+}
+
 /** Where the library's module is had from: an address, a response, its bytes, or the module. */
 export type Source = string | URL | Response | BufferSource | WebAssembly.Module;
 
@@ -179,6 +217,10 @@ export class Library {
   compareCheckpoints(oldCheckpoint: Checkpoint, newCheckpoint: Checkpoint, proof?: string): CheckpointComparison;
   /** How the leaves compare that two clients were shown at one place, under checkpoints of any lengths. */
   compareLeaves(place: number | bigint, oldLeaf: ShownLeaf, newLeaf: ShownLeaf): LeafComparison;
+  /** How two answers about the last record of one log compare that two clients were shown under one root of a map. */
+  compareHeads(mapRoot: string, logId: string, one: LogHead, other: LogHead): HeadComparison;
+  /** How two checkpoints compare that the log of a newer one is shown to begin with. */
+  compareBeginnings(newCheckpoint: Checkpoint, one: ShownBeginning, other: ShownBeginning): BeginningComparison;
 }
 
 /** A log of either kind; make a `PackageLog` or an `OperatorLog`. */
@@ -297,6 +339,19 @@ export function compareLeaves(
   newLeaf: ShownLeaf,
   options?: OfLibrary,
 ): Promise<LeafComparison>;
+export function compareHeads(
+  mapRoot: string,
+  logId: string,
+  one: LogHead,
+  other: LogHead,
+  options?: OfLibrary,
+): Promise<HeadComparison>;
+export function compareBeginnings(
+  newCheckpoint: Checkpoint,
+  one: ShownBeginning,
+  other: ShownBeginning,
+  options?: OfLibrary,
+): Promise<BeginningComparison>;
 
 /** What a call is refused for: `name` and `sentence` are the library's own, and `message` is what can be printed. */
 export class WeoldrinError extends Error {

@@ -27,7 +27,9 @@ export { auditMany } from "./many.js";
 export { printable } from "./printing.js";
 export {
   checkpointMessage,
+  compareBeginnings,
   compareCheckpoints,
+  compareHeads,
   compareLeaves,
   leaf,
   libraryVersion,
@@ -40,4 +42,12 @@ export {
   verifyPresence,
 } from "./proofs.js";
 export { RegistryTrees } from "./registry.js";
-export { CheckpointComparison, Kind, LeafComparison, Relation, kindOf } from "./values.js";
+export {
+  BeginningComparison,
+  CheckpointComparison,
+  HeadComparison,
+  Kind,
+  LeafComparison,
+  Relation,
+  kindOf,
+} from "./values.js";

@@ -16,7 +16,14 @@ import {
   WeoldrinError,
 } from "./errors.js";
 import { Memory, roomOfAll } from "./memory.js";
-import { CHECKPOINT_COMPARISONS, KINDS, LEAF_COMPARISONS, kindOf } from "./values.js";
+import {
+  BEGINNING_COMPARISONS,
+  CHECKPOINT_COMPARISONS,
+  HEAD_COMPARISONS,
+  KINDS,
+  LEAF_COMPARISONS,
+  kindOf,
+} from "./values.js";
 
 export const [OK, TOO_SMALL, REFUSED, NONE, BAD_ARGUMENT] = [0, 3, 5, 6, 7];
 
@@ -225,7 +232,8 @@ export class Library {
       logRoot,
       mapRoot,
     ]);
-    return CHECKPOINT_COMPARISONS[this.#compared("compare_checkpoints", [...older, ...newer, proof], [proof])];
+    const passed = [...older, ...newer, proof];
+    return CHECKPOINT_COMPARISONS[this.#compared("compare_checkpoints", LOG_TREE, passed, [proof])];
   }
 
   /**
@@ -241,7 +249,35 @@ export class Library {
       proof,
     ]);
     const passed = [number(place), ...older, ...newer];
-    return LEAF_COMPARISONS[this.#compared("compare_leaves", passed, [oldLeaf.proof, newLeaf.proof])];
+    return LEAF_COMPARISONS[this.#compared("compare_leaves", LOG_TREE, passed, [oldLeaf.proof, newLeaf.proof])];
+  }
+
+  /**
+   * How two answers about the last record of one log compare that are shown under one root of a registry's map, as two
+   * clients may have been shown them, as one of `HeadComparison`: each a record's id with its proof as `verifyPresence`
+   * takes it, or null with one as `verifyAbsence` takes it. Throws `BadArgument` where a record's id is "".
+   */
+  compareHeads(mapRoot, logId, one, other) {
+    const proofs = [one.proof, other.proof];
+    if (one.recordId === "" || other.recordId === "") throw this.#misuse(MAP_TREE, proofs);
+    const words = [one, other].flatMap(({ recordId, proof }) => [recordId === null ? "" : recordId, proof]);
+    return HEAD_COMPARISONS[this.#compared("compare_heads", MAP_TREE, [mapRoot, logId, ...words], proofs)];
+  }
+
+  /**
+   * How two checkpoints of a registry compare that the log of a newer one is shown to begin with, as two clients may
+   * have been shown them, as one of `BeginningComparison`. Of the newer one's map nothing is asked, and their times are
+   * not compared.
+   */
+  compareBeginnings(newCheckpoint, one, other) {
+    const words = [one, other].flatMap(({ checkpoint: { logLength, logRoot, mapRoot }, proof }) => [
+      number(logLength),
+      logRoot,
+      mapRoot,
+      proof,
+    ]);
+    const passed = [number(newCheckpoint.logLength), newCheckpoint.logRoot, ...words];
+    return BEGINNING_COMPARISONS[this.#compared("compare_beginnings", LOG_TREE, passed, [one.proof, other.proof])];
   }
 
   #shows(name, tree, passed) {
@@ -250,15 +286,15 @@ export class Library {
     return status === REFUSED ? false : this.isDone(name, status);
   }
 
-  // The case of a comparison that has these proofs on the log.
-  #compared(name, passed, proofs) {
+  // The case of a comparison that has these proofs on the tree.
+  #compared(name, tree, passed, proofs) {
     const words = wordsIn(passed);
     let status;
     const [found] = this.#whole(() => {
       status = this.#run(`warg_${name}`, [...this.#passed(words), this.beside]);
       return this.words(1);
     });
-    if (status === BAD_ARGUMENT) throw this.#misuse(LOG_TREE, proofs);
+    if (status === BAD_ARGUMENT) throw this.#misuse(tree, proofs);
     this.isDone(name, status);
     // It has 32 bits.
     return Number(BigInt.asUintN(32, found));

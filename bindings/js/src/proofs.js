@@ -33,6 +33,12 @@ export const compareCheckpoints = byLibrary("compareCheckpoints", 3);
 /** How the leaves compare that are shown at one place of a registry's log under two checkpoints. */
 export const compareLeaves = byLibrary("compareLeaves", 3);
 
+/** How two answers about the last record of one log compare that are shown under one root of a registry's map. */
+export const compareHeads = byLibrary("compareHeads", 4);
+
+/** How two checkpoints of a registry compare that the log of a newer one is shown to begin with. */
+export const compareBeginnings = byLibrary("compareBeginnings", 3);
+
 /** Whether the signature belongs to the message under the key, by their texts. */
 export const verify = byLibrary("verify", 3);
 

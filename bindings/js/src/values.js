@@ -32,9 +32,28 @@ export const CheckpointComparison = Object.freeze({
 /** How the leaves compare that are shown at one place of a registry's log under two checkpoints. */
 export const LeafComparison = Object.freeze({ SAME: "same", FORK: "fork", NOT_SHOWN: "not-shown" });
 
+/** How two answers about the last record of one log compare that are shown under one root of a registry's map. */
+export const HeadComparison = Object.freeze({
+  SAME: "same",
+  TWO: "two",
+  ONE_AND_NONE: "one-and-none",
+  NOT_SHOWN: "not-shown",
+});
+
+/** How two checkpoints of a registry compare that the log of a newer one is shown to begin with. */
+export const BeginningComparison = Object.freeze({
+  SAME: "same",
+  FORK: "fork",
+  COLLISION: "collision",
+  TWO_LENGTHS: "two-lengths",
+  NOT_SHOWN: "not-shown",
+});
+
 /** The comparisons by the library's numbers. */
 export const CHECKPOINT_COMPARISONS = Object.values(CheckpointComparison);
 export const LEAF_COMPARISONS = Object.values(LeafComparison);
+export const HEAD_COMPARISONS = Object.values(HeadComparison);
+export const BEGINNING_COMPARISONS = Object.values(BeginningComparison);
 
 /** The kinds by the library's numbers. */
 export const KINDS = Object.values(Kind);

@@ -2,7 +2,9 @@
 import {
   BadArgument,
   BadLine,
+  BeginningComparison,
   CheckpointComparison,
+  HeadComparison,
   Kind,
   LeafComparison,
   Library,
@@ -19,7 +21,9 @@ import {
   auditMany,
   checkpointMessage,
   checkpoints,
+  compareBeginnings,
   compareCheckpoints,
+  compareHeads,
   compareLeaves,
   kindOf,
   leaf,
@@ -31,7 +35,7 @@ import {
   records,
   verify,
 } from "weoldrin";
-import type { Comparison, LogHead, Question, Release, Roots, ShownLeaf, Verify } from "weoldrin";
+import type { Comparison, LogHead, Question, Release, Roots, ShownBeginning, ShownLeaf, Verify } from "weoldrin";
 
 const always: Verify = (question: Question) => question.signature !== "";
 const later: Verify = async ({ key, message, signature }) => verify(key, message, signature);
@@ -108,6 +112,11 @@ export async function registry(operators: OperatorLog, library: Library): Promis
   const leaf: ShownLeaf = { checkpoint, logId: "x", recordId: "y", proof: "z" };
   const leaves: LeafComparison = library.compareLeaves(place, leaf, { ...leaf, checkpoint: checkpoints.parse("{}") });
   if ((await compareLeaves(2n ** 60n, leaf, leaf)) !== leaves) printable(LeafComparison.NOT_SHOWN);
+  const heads: HeadComparison = library.compareHeads(mapRoot, "x", head, { recordId: null, proof: "z" });
+  if ((await compareHeads(mapRoot, "x", head, head, { library })) !== heads) printable(HeadComparison.ONE_AND_NONE);
+  const beginning: ShownBeginning = { checkpoint, proof: "z" };
+  const first: BeginningComparison = library.compareBeginnings(checkpoints.parse("{}"), beginning, beginning);
+  if ((await compareBeginnings(checkpoint, beginning, beginning)) !== first) printable(BeginningComparison.TWO_LENGTHS);
   const length: number = trees.length;
   trees.close();
   return [logRoot, ...proofs, shown, checkpoint.logLength, length, new RegistryTrees(library).length].join(" ");

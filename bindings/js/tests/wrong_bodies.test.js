@@ -163,8 +163,8 @@ const WRONG = {
   ],
   "the relations are out of order": [
     "values.js",
-    'FORK: "fork",\n  COLLISION: "collision",',
-    'COLLISION: "collision",\n  FORK: "fork",',
+    '  RIGHT_IS_PREFIX: "right-is-prefix",\n  FORK: "fork",\n  COLLISION: "collision",',
+    '  RIGHT_IS_PREFIX: "right-is-prefix",\n  COLLISION: "collision",\n  FORK: "fork",',
     "logs",
     "compare",
   ],

@@ -21,7 +21,7 @@ FOLDER = pathlib.Path(__file__).resolve().parent.parent
 PATIENCE = 120
 
 DEFINED, REFUSED, SAVED = (f"test_registry_trees.{it}" for it in ("AsDefined", "Refused", "Saved"))
-COMPARED = "test_comparisons"
+COMPARED, CONTRADICTIONS = "test_comparisons", "test_contradictions"
 COUNTED = "test_logs.Packages.test_counts_of_resumed_logs"
 THREADS, FORGOTTEN = "test_registry_threads.Threads", "test_registry_threads.Forgotten"
 SIGNALS, FORKS, ENDS = (f"test_registry_interrupted.{it}" for it in ("Signals", "Forks", "Ends"))
@@ -240,7 +240,22 @@ WRONG: dict[str, Wrong] = {
         "proofs.py", "proof in (old, new)\n", "proof in (new, new)\n",
         f"{COMPARED}.Leaves.test_forked"),
     "the fault of the newer proof alone is told": (
-        "proofs.py", "passed, words[0][-2:], words[1][-2:]", "passed, words[1][-2:]", f"{COMPARED}.Leaves.test_faults"),
+        "proofs.py", '"compare_leaves", passed, words[0][-2:], words[1][-2:]', '"compare_leaves", passed, words[1][-2:]',
+        f"{COMPARED}.Leaves.test_faults"),
+    "the second answer is compared with itself": (
+        "proofs.py", "it.proof) for it in (one, other)]", "it.proof) for it in (other, other)]",
+        f"{CONTRADICTIONS}.Heads.test_not_shown"),
+    "an empty text is no record": (
+        "proofs.py", '    if "" in (one.record_id, other.record_id):\n', "    if False:\n",
+        f"{CONTRADICTIONS}.Heads.test_faults"),
+    "the faults of proofs on a map are those of a log": (
+        "proofs.py", "words[1][-2:], tree=_MAP)", "words[1][-2:])", f"{CONTRADICTIONS}.Heads.test_faults"),
+    "the second beginning is compared with itself": (
+        "proofs.py", "for checkpoint, proof in (one, other)\n", "for checkpoint, proof in (other, other)\n",
+        f"{CONTRADICTIONS}.Beginnings.test_forked"),
+    "a beginning of the older log is one of the newer": (
+        "proofs.py", "*_passed(new.log_length, new.log_root)", "*_passed(new.log_length, one.checkpoint.log_root)",
+        f"{CONTRADICTIONS}.Beginnings.test_each_two_lengths"),
     "a comparison without memory has an answer": (
         "proofs.py", "    checked(name, status)\n    return case.value", "    return case.value",
         f"{COMPARED}.Leaves.test_memory"),

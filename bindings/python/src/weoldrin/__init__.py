@@ -20,8 +20,11 @@ from .incremental import NewRecords, audit_new
 from .logs import Log, OperatorLog, PackageLog, library_version, log_id, log_of, record_id
 from .printing import print_lines, printable
 from .proofs import (
+    ShownBeginning,
     ShownLeaf,
+    compare_beginnings,
     compare_checkpoints,
+    compare_heads,
     compare_leaves,
     leaf,
     verify_absence,
@@ -32,8 +35,10 @@ from .proofs import (
 from .signatures import verify
 from .trees import LogHead, RegistryTrees, saved_leaves
 from .values import (
+    BeginningComparison,
     CheckpointComparison,
     Comparison,
+    HeadComparison,
     Kind,
     Last,
     LeafComparison,
@@ -52,6 +57,7 @@ from .values import (
 __all__ = [
     "BadArgument",
     "BadLine",
+    "BeginningComparison",
     "Busy",
     "Checkpoint",
     "CheckpointComparison",
@@ -60,6 +66,7 @@ __all__ = [
     "Error",
     "Fault",
     "Forked",
+    "HeadComparison",
     "Kind",
     "Last",
     "LeafComparison",
@@ -86,6 +93,7 @@ __all__ = [
     "Rewritten",
     "RolledBack",
     "RunError",
+    "ShownBeginning",
     "ShownLeaf",
     "SignatureCheck",
     "SignedCheckpoint",
@@ -101,7 +109,9 @@ __all__ = [
     "audit",
     "audit_many",
     "audit_new",
+    "compare_beginnings",
     "compare_checkpoints",
+    "compare_heads",
     "compare_leaves",
     "envelopes_of",
     "kind_of",

@@ -134,6 +134,8 @@ _OUT: list[Any] = [ctypes.c_void_p, _SIZE, _USED]
 # A checkpoint without its time, and a leaf that is shown: the length and the root, both ids, and the proof.
 _CHECKPOINT: list[Any] = [_U64, *_IN, *_IN]
 _SHOWN: list[Any] = [_U64, *_IN, *_IN, *_IN, *_IN]
+# A checkpoint that another one is shown to go on from: with the proof.
+_BEGINNING: list[Any] = [*_CHECKPOINT, *_IN]
 
 _CALLS: dict[str, list[Any]] = {
     "open": [_LOG, _U32],
@@ -168,6 +170,8 @@ _CALLS: dict[str, list[Any]] = {
     "proof_fault": [_U32, *_IN, *_OUT],
     "compare_checkpoints": [*_CHECKPOINT, *_CHECKPOINT, *_IN, ctypes.POINTER(_U32)],
     "compare_leaves": [_U64, *_SHOWN, *_SHOWN, ctypes.POINTER(_U32)],
+    "compare_heads": [*_IN, *_IN, *_IN, *_IN, *_IN, *_IN, ctypes.POINTER(_U32)],
+    "compare_beginnings": [_U64, *_IN, *_BEGINNING, *_BEGINNING, ctypes.POINTER(_U32)],
     "checkpoint_message": [_U64, *_IN, *_IN, _U64, *_OUT],
     "verify_checkpoint": [_LOG, _U64, *_IN, *_IN, _U64, *_IN, *_IN],
     "registry_open": [_REGISTRY],

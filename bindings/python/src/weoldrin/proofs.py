@@ -3,8 +3,9 @@ base64.
 
 `verify_inclusion` and its like say whether the proof holds, and raise `BadArgument` where a text is not of its form, or
 where a place or a length is not from 0 to 2**64 - 1. If it is the proof's text, the error's name is the fault:
-`TooLong`, `BadBase64`, `BadLength` or `EmptySibling`. So do `compare_checkpoints` and `compare_leaves`, which say how
-what a registry signed goes with what it signed before, or with what it showed to another.
+`TooLong`, `BadBase64`, `BadLength` or `EmptySibling`. So do `compare_checkpoints`, `compare_leaves`, `compare_heads`
+and `compare_beginnings`, which say how what a registry signed goes with what it signed before, or with what it showed
+to another.
 
 What an accepted proof shows is so of every log of that length and root, and of every map of that root, or two strings
 that differ have one hash. No call knows whose root it is, or how long its log is: take a log's length and root, and the
@@ -17,7 +18,8 @@ from typing import NamedTuple
 from ._library import BAD_ARGUMENT, CALLS, REFUSED, Buffer, checked, number, texts
 from .checkpoints import Checkpoint
 from .errors import BadArgument
-from .values import CheckpointComparison, LeafComparison
+from .trees import LogHead
+from .values import BeginningComparison, CheckpointComparison, HeadComparison, LeafComparison
 
 # The trees on which proofs are.
 _LOG, _MAP = 0, 1
@@ -31,6 +33,14 @@ class ShownLeaf(NamedTuple):
     record_id: str
     proof: str
     """As `verify_inclusion` takes it under the length and the root of the checkpoint's log."""
+
+
+class ShownBeginning(NamedTuple):
+    """A checkpoint, and the proof that is to show that the log of a newer one begins with its own."""
+
+    checkpoint: Checkpoint
+    proof: str
+    """As `verify_consistency` takes it under the length and the root of the newer checkpoint's log."""
 
 
 def _holds(name: str, tree: int, *arguments: str | int) -> bool:
@@ -60,12 +70,12 @@ def _misuse(tree: int, *proofs: list[bytes | int]) -> BadArgument:
     return BadArgument("BadText: a root or an id is not the text of one")
 
 
-def _case_of(name: str, passed: list[bytes | int], *proofs: list[bytes | int]) -> int:
-    """The case that a call gives which compares, with proofs on the log."""
+def _case_of(name: str, passed: list[bytes | int], *proofs: list[bytes | int], tree: int = _LOG) -> int:
+    """The case that a call gives which compares, with proofs on the tree."""
     case = ctypes.c_uint32(0)
     status = CALLS[name](*passed, case)
     if status == BAD_ARGUMENT:
-        raise _misuse(_LOG, *proofs)
+        raise _misuse(tree, *proofs)
     checked(name, status)
     return case.value
 
@@ -116,3 +126,25 @@ def compare_leaves(place: int, old: ShownLeaf, new: ShownLeaf) -> LeafComparison
     ]
     passed = [number(place), *words[0], *words[1]]
     return LeafComparison(_case_of("compare_leaves", passed, words[0][-2:], words[1][-2:]))
+
+
+def compare_heads(map_root: str, log_id: str, one: LogHead, other: LogHead) -> HeadComparison:
+    """How two answers about the last record of one log compare that are shown under one root of a registry's map, as
+    two clients may have been shown them: each a record's id with its proof as `verify_presence` takes it, or None with
+    one as `verify_absence` takes it. Raises `BadArgument` where a record's id is ""."""
+    words = [_passed(it.record_id or "", it.proof) for it in (one, other)]
+    if "" in (one.record_id, other.record_id):
+        raise _misuse(_MAP, words[0][-2:], words[1][-2:])
+    passed = [*_passed(map_root, log_id), *words[0], *words[1]]
+    return HeadComparison(_case_of("compare_heads", passed, words[0][-2:], words[1][-2:], tree=_MAP))
+
+
+def compare_beginnings(new: Checkpoint, one: ShownBeginning, other: ShownBeginning) -> BeginningComparison:
+    """How two checkpoints of a registry compare that the log of a newer one is shown to begin with, as two clients may
+    have been shown them. Of the newer one's map nothing is asked, and their times are not compared."""
+    words = [
+        _passed(checkpoint.log_length, checkpoint.log_root, checkpoint.map_root, proof)
+        for checkpoint, proof in (one, other)
+    ]
+    passed = [*_passed(new.log_length, new.log_root), *words[0], *words[1]]
+    return BeginningComparison(_case_of("compare_beginnings", passed, words[0][-2:], words[1][-2:]))

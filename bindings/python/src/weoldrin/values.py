@@ -119,6 +119,35 @@ class LeafComparison(enum.Enum):
     """One of the proofs does not hold."""
 
 
+class HeadComparison(enum.Enum):
+    """How two answers about the last record of one log compare that are shown under one root of a registry's map."""
+
+    SAME = 0
+    """Both proofs hold, and the answers are one: one record, or none."""
+    TWO = 1
+    """Both proofs hold, of two records: two strings collide."""
+    ONE_AND_NONE = 2
+    """Both proofs hold, of a record and of none: two strings collide."""
+    NOT_SHOWN = 3
+    """One of the proofs does not hold."""
+
+
+class BeginningComparison(enum.Enum):
+    """How two checkpoints of a registry compare that the log of a newer one is shown to begin with."""
+
+    SAME = 0
+    """Both proofs hold, and the lengths and both roots are equal."""
+    FORK = 1
+    """Both proofs hold, the lengths and the logs' roots are equal, and the maps' roots differ: no list of leaves has
+    both. Two signatures show that the registry forked."""
+    COLLISION = 2
+    """Both proofs hold, the lengths are equal, and the logs' roots differ: two strings collide."""
+    TWO_LENGTHS = 3
+    """Both proofs hold, and the lengths differ: nothing is said against the two."""
+    NOT_SHOWN = 4
+    """One of the proofs does not hold."""
+
+
 class LogKind(enum.Enum):
     """The kinds of logs."""
 
