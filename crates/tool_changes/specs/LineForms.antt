@@ -61,6 +61,24 @@ fork = a_tag (codes "verdict") (codes "fork") (codes "fork") ∷ a_number (codes
 abbrev pub collision : List PartView
 collision = a_tag (codes "verdict") (codes "collision") (codes "collision") ∷ a_number (codes "old") ∷ a_number (codes "new") ∷ a_text (codes "id") ∷ []
 
+abbrev pub same_length : List PartView
+same_length = a_tag (codes "verdict") (codes "same") (codes "same") ∷ a_number (codes "length") ∷ []
+
+abbrev pub fork_length : List PartView
+fork_length = a_tag (codes "verdict") (codes "fork") (codes "fork") ∷ a_number (codes "length") ∷ []
+
+abbrev pub not_shown_lengths : List PartView
+not_shown_lengths = a_tag (codes "verdict") (codes "not") (codes "not shown") ∷ a_word (codes "shown") ∷ a_number (codes "old") ∷ a_number (codes "new") ∷ []
+
+abbrev pub same_leaf : List PartView
+same_leaf = a_tag (codes "verdict") (codes "same") (codes "same") ∷ []
+
+abbrev pub fork_leaf : List PartView
+fork_leaf = a_tag (codes "verdict") (codes "fork") (codes "fork") ∷ []
+
+abbrev pub no_leaf : List PartView
+no_leaf = a_tag (codes "verdict") (codes "not") (codes "not shown") ∷ a_word (codes "shown") ∷ []
+
 abbrev pub of_old : List PartView
 of_old = a_tag (codes "side") (codes "old:") (codes "old") ∷ a_tag (codes "verdict") (codes "refused") (codes "refused") ∷ a_number (codes "record") ∷ a_text (codes "offence") ∷ []
 
@@ -127,7 +145,7 @@ record_forms =
     ∷ record {
       command = codes "compare";
       forms = same_empty ∷ same ∷ goes_on ∷ rolled_back ∷ fork ∷ old_record ∷ bare_old_record ∷ new_record ∷ bare_new_record ∷
-          collision ∷ of_old ∷ of_new ∷ [];
+          collision ∷ of_old ∷ of_new ∷ same_length ∷ fork_length ∷ not_shown_lengths ∷ same_leaf ∷ fork_leaf ∷ no_leaf ∷ [];
     }
     ∷ []
 
@@ -166,6 +184,7 @@ other_forms =
           (a_tag (codes "verdict") (codes "other") (codes "other scheme") ∷ a_word (codes "scheme") ∷ []) ∷ [];
     }
     ∷ record { command = codes "message"; forms = (a_text (codes "message") ∷ []) ∷ [] }
+    ∷ record { command = codes "leaf"; forms = (a_text (codes "leaf") ∷ []) ∷ [] }
     ∷ []
 
 -- whether a command tells records, or where they are

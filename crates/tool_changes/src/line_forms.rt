@@ -165,7 +165,7 @@ const STATE: Form = Form {
     parts: &[Part::Json("state")],
 };
 
-static OTHER_FORMS: [CommandForms; 13] = [
+static OTHER_FORMS: [CommandForms; 14] = [
     CommandForms {
         command: "id",
         forms: &[
@@ -320,6 +320,12 @@ static OTHER_FORMS: [CommandForms; 13] = [
         command: "message",
         forms: &[Form {
             parts: &[Part::Text("message")],
+        }],
+    },
+    CommandForms {
+        command: "leaf",
+        forms: &[Form {
+            parts: &[Part::Text("leaf")],
         }],
     },
 ];

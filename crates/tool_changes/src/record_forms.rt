@@ -32,6 +32,38 @@ const GOES_ON: Form = Form {
     ],
 };
 
+const SAME_LENGTH: Form = Form {
+    parts: &[Part::Tag("verdict", "same", "same"), Part::Number("length")],
+};
+
+const FORK_LENGTH: Form = Form {
+    parts: &[Part::Tag("verdict", "fork", "fork"), Part::Number("length")],
+};
+
+const NOT_SHOWN_LENGTHS: Form = Form {
+    parts: &[
+        Part::Tag("verdict", "not", "not shown"),
+        Part::Word("shown"),
+        Part::Number("old"),
+        Part::Number("new"),
+    ],
+};
+
+const SAME_LEAF: Form = Form {
+    parts: &[Part::Tag("verdict", "same", "same")],
+};
+
+const FORK_LEAF: Form = Form {
+    parts: &[Part::Tag("verdict", "fork", "fork")],
+};
+
+const NO_LEAF: Form = Form {
+    parts: &[
+        Part::Tag("verdict", "not", "not shown"),
+        Part::Word("shown"),
+    ],
+};
+
 const OF_OLD: Form = Form {
     parts: &[
         Part::Tag("side", "old:", "old"),
@@ -202,6 +234,12 @@ static RECORD_FORMS: [CommandForms; 3] = [
             COLLISION,
             OF_OLD,
             OF_NEW,
+            SAME_LENGTH,
+            FORK_LENGTH,
+            NOT_SHOWN_LENGTHS,
+            SAME_LEAF,
+            FORK_LEAF,
+            NO_LEAF,
         ],
     },
 ];

@@ -4,3 +4,4 @@ pub mod WordLemmas
 mod CheckpointLemmas
 mod SignedLemmas
 pub mod ProofTextLemmas
+mod ViewLemmas

@@ -21,6 +21,7 @@ ghost use Rattle.tool_checkpoints.specs.CheckpointAnswers.{IsSignatureOf, IsSign
 ghost use Rattle.tool_checkpoints.specs.CheckpointAnswers.{signed_members, takes, Tells};
 ghost use Rattle.tool_checkpoints.specs.Words.{IsIn, IsUnsaid, IsUnsaidIn};
 
+use crate::hex_line::hex_line;
 use crate::read_words::{number_of, read_checkpoint};
 use serde_json::Value;
 use std::alloc::{AllocError, Global};
@@ -30,7 +31,6 @@ use warg_audit::files::command_error::CommandError;
 use warg_audit::files::command_output::CommandOutput;
 use warg_audit::files::input::{Input, Store, file_error, read_input};
 use warg_crypto::json::{JsonError, JsonValue};
-use warg_crypto::laws::byte_range;
 use warg_crypto::signing::{PublicKey, SignatureError, Verifier, signed_message};
 use warg_crypto::{Encode, Signable};
 use warg_envelope::SerdeEnvelope;
@@ -38,8 +38,8 @@ use warg_protocol::operator::LogState;
 use warg_registry::TimestampedCheckpoint;
 use warg_saved_states::{JsonTextError, read_asked};
 
-// A checkpoint at a time, under a signature.
-type Signed = SerdeEnvelope<TimestampedCheckpoint>;
+/// A checkpoint at a time, under a signature.
+pub(crate) type Signed = SerdeEnvelope<TimestampedCheckpoint>;
 
 // What is signed of a checkpoint.
 fn message_of(alloc: Global, checkpoint: &TimestampedCheckpoint) -> Result<Vec<u8>, AllocError>
@@ -63,10 +63,7 @@ fn message_line(
     ensures are_bytes { OnOk result (IsBytes (checkpoint_message checkpoint.now)) }
 {
     let message = message_of(alloc, checkpoint)?;
-    byte_range(message.as_slice());
-    let mut text = hex::encode(alloc, message.as_slice())?;
-    text.push('\n')?;
-    Ok(CommandOutput::new(alloc, text, 0))
+    hex_line(alloc, message.as_slice())
 }
 
 // What is signed of the checkpoint in a file at the time that a word says.
@@ -155,8 +152,12 @@ fn signed_of_file(alloc: Global, input: &Input<'_>) -> Result<Signed, CommandErr
     }
 }
 
-// The signed checkpoint in the file of this path.
-fn read_signed<S: Store>(alloc: Global, path: &str, store: &mut S) -> Result<Signed, CommandError>
+/// The signed checkpoint in the file of this path.
+pub(crate) fn read_signed<S: Store>(
+    alloc: Global,
+    path: &str,
+    store: &mut S,
+) -> Result<Signed, CommandError>
     ensures ok { IfOk result (IsIn (S.files store.old) path.now IsSigned) }
     ensures err { IfErr result (IfOutput (IsUnsaidIn (S.files store.old) path.now IsSigned)) }
     ensures kept { S.files store.new ≡ S.files store.old }

@@ -15,6 +15,7 @@ pub mod ShowLemmas
 pub mod ProofLemmas
 pub mod CheckpointLemmas
 pub mod SignedLemmas
+pub mod ViewLemmas
 pub mod HexLemmas
 pub mod TaskLemmas
 pub mod RequestLemmas

@@ -41,6 +41,7 @@ use Rattle.tool_laws.proofs.LogLemmas.{lawful_clean}
 use Rattle.tool_laws.proofs.QuestionLemmas.{question_clean}
 use Rattle.tool_laws.proofs.ShowLemmas.{show_clean}
 use Rattle.tool_laws.proofs.TaskLemmas.{done_clean}
+use Rattle.tool_laws.proofs.ViewLemmas.{leaf_clean, views_clean}
 
 package_text_plain : (it : PackagePermission) → is_plain (package_permissions.permission_text it) ≡ true
 package_text_plain package_permission.Release = refl
@@ -109,8 +110,10 @@ request_clean json belongs old new (request.Audits kind paths allows_empty) prin
 request_clean json belongs old new (request.Show kind path) printed h made = shown_clean kind belongs old path.now printed h
 request_clean json belongs old new (request.Latest requirement path) printed h made = latest_clean belongs old requirement.now path.now printed h
 request_clean json belongs old new (request.LogId log) printed h made = log_id_clean log printed h
+request_clean json belongs old new (request.Leaf leaf) printed h made = leaf_clean leaf printed h
 request_clean json belongs old new (request.Prove wanted path) printed h made = proof_clean old wanted path.now printed h
 request_clean json belongs old new (request.Verify statement) printed h made = statement_clean old statement printed h
+request_clean json belongs old new (request.Compare views) printed h made = views_clean old views printed h
 request_clean json belongs old new (request.Checkpoint query) printed h made = checkpoint_clean belongs old query printed h
 request_clean json belongs old new (request.Ask kind question) printed h made = asked_clean kind belongs old question printed h
 request_clean json belongs old new (request.Do kind it) printed h made = done_clean kind belongs old new it printed h made

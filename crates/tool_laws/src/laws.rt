@@ -6,6 +6,8 @@ ghost use Rattle.warg_audit.specs.Answers.{IsIdAnswer};
 ghost use Rattle.warg_audit.specs.LogKinds.{operator_log, package_log};
 ghost use Rattle.warg_audit.specs.Printouts.{OutputData};
 ghost use Rattle.tool_checkpoints.specs.CheckpointAnswers.{IsCheckpointAnswer};
+ghost use Rattle.tool_checkpoints.specs.Comparisons.{IsViewsAnswer};
+ghost use Rattle.tool_checkpoints.specs.LeafTexts.{IsLeafAnswer};
 ghost use Rattle.tool_checkpoints.specs.LogIdTexts.{IsLogIdAnswer};
 ghost use Rattle.tool_checkpoints.specs.ProofTexts.{IsProofAnswer};
 ghost use Rattle.tool_checkpoints.specs.Proofs.{IsStatementVerdict};
@@ -21,10 +23,12 @@ ghost use Rattle.tool_words.specs.declared.checkpoint.CheckpointQuery.{Checkpoin
 ghost use Rattle.tool_words.specs.declared.request.Demands.{Demands};
 ghost use Rattle.tool_words.specs.declared.request.Invocation.{Invocation};
 ghost use Rattle.tool_words.specs.declared.request.LogQuery.{LogQuery};
+ghost use Rattle.tool_words.specs.declared.statement.LeafIds.{LeafIds};
 ghost use Rattle.tool_words.specs.declared.statement.NamedLog.{NamedLog};
 ghost use Rattle.tool_words.specs.declared.statement.Statement.{Statement};
 ghost use Rattle.tool_words.specs.declared.statement.Wanted.{Wanted};
 ghost use Rattle.tool_words.specs.declared.task.Task.{Task};
+ghost use Rattle.tool_words.specs.declared.views.Views.{Views};
 ghost use Rattle.weoldrin.specs.Requests.{IsAskedAnswer, IsInvocationAnswer, IsLatestAnswer, IsShownAnswer};
 
 /// What is said of lines that are no lawful log is lines without a hidden character.
@@ -80,6 +84,12 @@ pub fn log_ids_are_printed()
         IsPrintedText printed.text }
 {}
 
+/// So is the leaf of a record.
+pub fn leaves_are_printed()
+    ensures { (ids : LeafIds) (printed : OutputData) → IsLeafAnswer ids printed →
+        IsPrintedText printed.text }
+{}
+
 /// So are checkpoints and proofs.
 pub fn proofs_are_printed()
     ensures { (files : Option Files) (words : Wanted) (path : List ℕ) (printed : OutputData) →
@@ -90,6 +100,12 @@ pub fn proofs_are_printed()
 pub fn statements_are_printed()
     ensures { (files : Option Files) (statement : Statement) (printed : OutputData) →
         IsStatementVerdict files statement printed → IsPrintedText printed.text }
+{}
+
+/// So is how two views of a registry compare.
+pub fn comparisons_are_printed()
+    ensures { (files : Option Files) (views : Views) (printed : OutputData) →
+        IsViewsAnswer files views printed → IsPrintedText printed.text }
 {}
 
 /// So is the message that is signed of a checkpoint, and what is said of its signature.

@@ -1,11 +1,13 @@
 -- The commands, as a table: the name of each, its places and its options.
-use Rattle.std.specs.Prelude.{ℕ, Bool, true, false, if◌then◌else◌, List, [], ◌∷◌, codes, Option}
+use Rattle.std.specs.Prelude.{ℕ, Bool, true, false, if◌then◌else◌, List, [], ◌∷◌, codes, Option, Some, None}
 use Rattle.std.specs.Option.{option_map}
 use Rattle.std.specs.Map.{lookup}
 use Rattle.std.specs.Str.{bytes_eq}
 use Rattle.tool_words.specs.declared.command.Command.{Command}
 use Rattle.tool_words.specs.declared.command.Command.TheVariants as command
 use Rattle.tool_words.specs.declared.command.Asking.TheVariants as asking
+use Rattle.tool_words.specs.declared.command.Comparing.{Comparing}
+use Rattle.tool_words.specs.declared.command.Comparing.TheVariants as comparing
 use Rattle.tool_words.specs.declared.command.Doing.TheVariants as doing
 use Rattle.tool_words.specs.declared.command.Naming.{Naming}
 use Rattle.tool_words.specs.declared.command.Naming.TheVariants as naming
@@ -34,6 +36,7 @@ commands =
     (codes "make", command.Do doing.Make) ∷
     (codes "append", command.Do doing.Append) ∷
     (codes "message", command.Message) ∷
+    (codes "leaf", command.Leaf) ∷
     []
 
 -- those of `log-id`
@@ -62,12 +65,25 @@ statements =
     (codes "absence", verifying.Absence) ∷
     []
 
--- the command that two words name; the second is a part of the name within `log-id`, `prove` and `verify` alone
+-- those of `compare`, beside that of two logs
+abbrev pub comparisons : List (List ℕ × Comparing)
+comparisons =
+    (codes "checkpoints", comparing.Checkpoints) ∷
+    (codes "leaves", comparing.Leaves) ∷
+    []
+
+-- the command of a comparison: that of two logs, where no other is named
+abbrev pub comparison : Option Comparing → Command
+comparison None = command.Ask asking.Compare
+comparison (Some it) = command.Compare it
+
+-- the command that two words name; the second is a part of the name within `log-id`, `prove` and `verify`, and in a comparison of no logs
 abbrev pub command_of : List ℕ → List ℕ → Option Command
 command_of first second =
     if bytes_eq first (codes "log-id") then option_map command.LogId (named second names)
     else if bytes_eq first (codes "prove") then option_map command.Prove (named second proofs)
     else if bytes_eq first (codes "verify") then option_map command.Verify (named second statements)
+    else if bytes_eq first (codes "compare") then Some (comparison (named second comparisons))
     else named first commands
 
 -- what stands at a place of a command; the last two stand last
@@ -100,6 +116,7 @@ forms (command.Do doing.Claims) = Kind ∷ Input ∷ []
 forms (command.Do doing.Make) = Kind ∷ File ∷ Word ∷ Words ∷ []
 forms (command.Do doing.Append) = Kind ∷ File ∷ Input ∷ []
 forms command.Message = File ∷ Word ∷ []
+forms command.Leaf = Word ∷ Word ∷ []
 forms (command.LogId naming.Package) = Word ∷ []
 forms (command.LogId naming.Operator) = []
 forms (command.Prove proving.Checkpoint) = Input ∷ []
@@ -111,6 +128,8 @@ forms (command.Verify verifying.Inclusion) = File ∷ Word ∷ Word ∷ Word ∷
 forms (command.Verify verifying.Consistency) = File ∷ File ∷ File ∷ []
 forms (command.Verify verifying.Head) = File ∷ Word ∷ Word ∷ File ∷ []
 forms (command.Verify verifying.Absence) = File ∷ Word ∷ File ∷ []
+forms (command.Compare comparing.Checkpoints) = File ∷ File ∷ Input ∷ []
+forms (command.Compare comparing.Leaves) = Word ∷ File ∷ Word ∷ Word ∷ File ∷ File ∷ Word ∷ Word ∷ File ∷ []
 
 -- whether a place has to be filled
 abbrev pub is_needed : Form → Bool
@@ -178,6 +197,7 @@ options (command.Do doing.Claims) = of_logs
 options (command.Do doing.Make) = of_making
 options (command.Do doing.Append) = of_logs
 options command.Message = of_files
+options command.Leaf = of_all
 options (command.LogId it) = of_all
 options (command.Prove it) = of_files
 options (command.Verify verifying.Checkpoint) = of_logs
@@ -185,3 +205,4 @@ options (command.Verify verifying.Inclusion) = of_files
 options (command.Verify verifying.Consistency) = of_files
 options (command.Verify verifying.Head) = of_files
 options (command.Verify verifying.Absence) = of_files
+options (command.Compare it) = of_files

@@ -26,6 +26,7 @@ abbrev pub named_by : Command → ℕ
 named_by (command.LogId it) = 3
 named_by (command.Prove it) = 3
 named_by (command.Verify it) = 3
+named_by (command.Compare it) = 3
 named_by _ = 2
 
 -- the call of a command and parts, if it takes them
@@ -78,6 +79,7 @@ abbrev pub is_grouped : Option Command → Bool
 is_grouped (Some (command.LogId it)) = true
 is_grouped (Some (command.Prove it)) = true
 is_grouped (Some (command.Verify it)) = true
+is_grouped (Some (command.Compare it)) = true
 is_grouped _ = false
 
 -- whether one of the words asks for help, before `--`

@@ -1,5 +1,5 @@
 -- Which request a command with its places and options is.
-use Rattle.std.specs.Prelude.{◌≡◌, ℕ, Bool, true, false, List, [], ◌∷◌, codes, drop, map, Option, Some, None}
+use Rattle.std.specs.Prelude.{◌≡◌, ◌+◌, ℕ, Bool, true, false, List, [], ◌∷◌, codes, drop, map, Option, Some, None}
 use Rattle.std.specs.Borrow.{Bor}
 use Rattle.std.specs.Option.{option_map}
 use Rattle.tool_words.specs.Parts.{has, place, value}
@@ -7,6 +7,7 @@ use Rattle.tool_words.specs.Rules.{is_one_log, key_text, kind_of, limit_in, numb
 use Rattle.tool_words.specs.declared.command.Command.{Command}
 use Rattle.tool_words.specs.declared.command.Command.TheVariants as command
 use Rattle.tool_words.specs.declared.command.Asking.TheVariants as asking
+use Rattle.tool_words.specs.declared.command.Comparing.TheVariants as comparing
 use Rattle.tool_words.specs.declared.command.Doing.TheVariants as doing
 use Rattle.tool_words.specs.declared.command.Naming.TheVariants as naming
 use Rattle.tool_words.specs.declared.command.Proving.TheVariants as proving
@@ -29,6 +30,9 @@ use Rattle.tool_words.specs.declared.task.Signer.{Signer}
 use Rattle.tool_words.specs.declared.task.Signer.TheVariants as signer
 use Rattle.tool_words.specs.declared.task.Task.{Task}
 use Rattle.tool_words.specs.declared.task.Task.TheVariants as task
+use Rattle.tool_words.specs.declared.views.ShownIds.{ShownIds}
+use Rattle.tool_words.specs.declared.views.Views.{Views}
+use Rattle.tool_words.specs.declared.views.Views.TheVariants as views
 
 -- what texts are behind references
 abbrev pub texts : List (Bor (List ℕ)) → List (List ℕ)
@@ -56,6 +60,13 @@ pub record IsNewRecord (places : List (List ℕ)) (given : List (List ℕ × Lis
   pub clock : it.clock ≡ None
   pub time : it.time.now ≡ place 2 places
   pub entries : texts it.entries.items ≡ drop 3 places
+
+-- the leaf that a registry shows, by the four words from a place on
+pub record AreShownIds (i : ℕ) (places : List (List ℕ)) (it : ShownIds) : Type 0 where
+  pub checkpoint : it.checkpoint.now ≡ place i places
+  pub log_id : it.leaf.log_id.now ≡ place (i + 1) places
+  pub record_id : it.leaf.record_id.now ≡ place (i + 2) places
+  pub proof : it.proof.now ≡ place (i + 3) places
 
 module _ (called : Command) (places : List (List ℕ)) (given : List (List ℕ × List ℕ)) where
   -- the question on logs of one kind
@@ -105,6 +116,13 @@ module _ (called : Command) (places : List (List ℕ)) (given : List (List ℕ �
   IsStatement (statement.Absence checkpoint log_id proof) =
       (called ≡ command.Verify verifying.Absence) × (checkpoint.now ≡ place 0 places) × (log_id.now ≡ place 1 places) × (proof.now ≡ place 2 places)
 
+  -- what is compared
+  abbrev pub AreViews : Views → Type 0
+  AreViews (views.Checkpoints old new proof) =
+      (called ≡ command.Compare comparing.Checkpoints) × (old.now ≡ place 0 places) × (new.now ≡ place 1 places) × (proof.now ≡ place 2 places)
+  AreViews (views.Leaves at old new) =
+      (called ≡ command.Compare comparing.Leaves) × (at.now ≡ place 0 places) × AreShownIds 1 places old × AreShownIds 5 places new
+
   -- what is asked of a checkpoint
   abbrev pub IsCheckpointQuery : CheckpointQuery → Type 0
   IsCheckpointQuery (query.Message checkpoint time) =
@@ -125,8 +143,11 @@ module _ (called : Command) (places : List (List ℕ)) (given : List (List ℕ �
   IsRequest (request.Show kind log) = (called ≡ command.Show) × (kind ≡ kind_of (place 0 places)) × (log.now ≡ place 1 places)
   IsRequest (request.Latest requirement log) = (called ≡ command.Latest) × (requirement.now ≡ place 0 places) × (log.now ≡ place 1 places)
   IsRequest (request.LogId log) = IsNamedLog log
+  IsRequest (request.Leaf leaf) =
+      (called ≡ command.Leaf) × (leaf.log_id.now ≡ place 0 places) × (leaf.record_id.now ≡ place 1 places)
   IsRequest (request.Prove wanted leaves) = IsWanted wanted leaves.now
   IsRequest (request.Verify statement) = IsStatement statement
+  IsRequest (request.Compare views) = AreViews views
   IsRequest (request.Checkpoint query) = IsCheckpointQuery query
   IsRequest (request.Ask kind question) = (kind ≡ kind_of (place 0 places)) × IsLogQuery question
   IsRequest (request.Do kind task) = (kind ≡ kind_of (place 0 places)) × IsTask task

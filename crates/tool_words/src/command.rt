@@ -1,7 +1,7 @@
 //! The commands, by the names that they have in the table.
 
 ghost use Rattle.std.specs.Prelude.{◌≡◌, count_by, length};
-ghost use Rattle.tool_words.specs.Commands.{command_of, commands, forms, has_kind, has_more, is_needed, named, names, proofs, statements};
+ghost use Rattle.tool_words.specs.Commands.{command_of, commands, comparison, comparisons, forms, has_kind, has_more, is_needed, named, names, proofs, statements};
 
 /// What is asked of logs of one kind.
 #[derive(Clone, Copy, Debug, PartialEq, Eq)]
@@ -47,6 +47,13 @@ pub(crate) enum Verifying {
     Absence,
 }
 
+/// What is compared of two views of a registry.
+#[derive(Clone, Copy, Debug, PartialEq, Eq)]
+pub(crate) enum Comparing {
+    Checkpoints,
+    Leaves,
+}
+
 /// A command.
 #[derive(Clone, Copy, Debug, PartialEq, Eq)]
 pub(crate) enum Command {
@@ -57,9 +64,11 @@ pub(crate) enum Command {
     Ask(Asking),
     Do(Doing),
     Message,
+    Leaf,
     LogId(Naming),
     Prove(Proving),
     Verify(Verifying),
+    Compare(Comparing),
 }
 
 /// The command of this name that is in no group.
@@ -80,6 +89,7 @@ pub(crate) fn of_name(name: &str) -> Option<Command>
         "make" => Some(Command::Do(Doing::Make)),
         "append" => Some(Command::Do(Doing::Append)),
         "message" => Some(Command::Message),
+        "leaf" => Some(Command::Leaf),
         _ => None,
     }
 }
@@ -119,9 +129,24 @@ fn verifying_of(name: &str) -> Option<Verifying>
     }
 }
 
-/// Whether a name is that of a group of commands.
-pub(crate) fn is_group(name: &str) -> bool {
-    name == "log-id" || (name == "prove" || name == "verify")
+fn comparing_of(name: &str) -> Option<Comparing>
+    ensures { result ≡ named name.now comparisons }
+{
+    match name {
+        "checkpoints" => Some(Comparing::Checkpoints),
+        "leaves" => Some(Comparing::Leaves),
+        _ => None,
+    }
+}
+
+// The comparison that the word behind `compare` names: that of two logs, where it names no other.
+fn comparison_of(name: &str) -> Command
+    ensures { result ≡ comparison (named name.now comparisons) }
+{
+    match comparing_of(name) {
+        Some(comparing) => Command::Compare(comparing),
+        None => Command::Ask(Asking::Compare),
+    }
 }
 
 impl Command {
@@ -133,6 +158,7 @@ impl Command {
             "log-id" => naming_of(second).map(|it| Command::LogId(it)),
             "prove" => proving_of(second).map(|it| Command::Prove(it)),
             "verify" => verifying_of(second).map(|it| Command::Verify(it)),
+            "compare" => Some(comparison_of(second)),
             _ => of_name(first),
         }
     }
@@ -149,7 +175,7 @@ impl Command {
             Command::Do(Doing::Claims) => 1,
             Command::Do(Doing::Make) => 3,
             Command::Do(Doing::Append) => 2,
-            Command::Message => 2,
+            Command::Message | Command::Leaf => 2,
             Command::LogId(Naming::Package) => 1,
             Command::LogId(Naming::Operator) => 0,
             Command::Prove(Proving::Checkpoint) => 0,
@@ -158,6 +184,8 @@ impl Command {
             Command::Verify(Verifying::Inclusion) => 5,
             Command::Verify(Verifying::Consistency | Verifying::Absence) => 3,
             Command::Verify(Verifying::Head) => 4,
+            Command::Compare(Comparing::Checkpoints) => 2,
+            Command::Compare(Comparing::Leaves) => 9,
         }
     }
 
@@ -174,7 +202,7 @@ impl Command {
             Command::Do(Doing::Claims) => 2,
             Command::Do(Doing::Make) => 4,
             Command::Do(Doing::Append) => 3,
-            Command::Message => 2,
+            Command::Message | Command::Leaf => 2,
             Command::LogId(Naming::Package) => 1,
             Command::LogId(Naming::Operator) => 0,
             Command::Prove(Proving::Checkpoint) => 1,
@@ -183,6 +211,8 @@ impl Command {
             Command::Verify(Verifying::Inclusion) => 5,
             Command::Verify(Verifying::Consistency | Verifying::Absence) => 3,
             Command::Verify(Verifying::Head) => 4,
+            Command::Compare(Comparing::Checkpoints) => 3,
+            Command::Compare(Comparing::Leaves) => 9,
         }
     }
 
@@ -193,8 +223,9 @@ impl Command {
         match self {
             Command::Audit | Command::Do(Doing::Make) => true,
             Command::Id | Command::Show | Command::Latest | Command::Ask(_) => false,
-            Command::Do(Doing::Claims | Doing::Append) | Command::Message => false,
-            Command::LogId(_) | Command::Prove(_) | Command::Verify(_) => false,
+            Command::Do(Doing::Claims | Doing::Append) => false,
+            Command::Message | Command::Leaf | Command::LogId(_) => false,
+            Command::Prove(_) | Command::Verify(_) | Command::Compare(_) => false,
         }
     }
 
@@ -204,8 +235,8 @@ impl Command {
     {
         match self {
             Command::Id | Command::Audit | Command::Show | Command::Ask(_) | Command::Do(_) => true,
-            Command::Latest | Command::Message => false,
-            Command::LogId(_) | Command::Prove(_) | Command::Verify(_) => false,
+            Command::Latest | Command::Message | Command::Leaf | Command::LogId(_) => false,
+            Command::Prove(_) | Command::Verify(_) | Command::Compare(_) => false,
         }
     }
 }

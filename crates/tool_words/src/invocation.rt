@@ -1,10 +1,10 @@
 //! The invocation that words are.
 
-ghost use Rattle.std.specs.Prelude.{◌≡◌, drop, false, IfOk, MatchOption, Some};
+ghost use Rattle.std.specs.Prelude.{◌≡◌, ◌<◌, drop, false, IfOk, MatchOption, Some};
 ghost use Rattle.tool_words.specs.Commands.{command_of};
 ghost use Rattle.tool_words.specs.Invocations.{call_by, call_if_taken, invocation_of, IsCalled, named_by, word};
 ghost use Rattle.tool_words.specs.PartsViews.{parts_view};
-ghost use Rattle.tool_words.specs.Requests.{AreDemands, IsCheckpointQuery, IsNamedLog, IsNewRecord, IsLogQuery, IsRequest, IsTask, IsWanted, texts};
+ghost use Rattle.tool_words.specs.Requests.{AreDemands, AreShownIds, AreViews, IsCheckpointQuery, IsNamedLog, IsNewRecord, IsLogQuery, IsRequest, IsTask, IsWanted, texts};
 ghost use Rattle.tool_words.specs.Parts.{place};
 ghost use Rattle.tool_words.specs.Rules.{is_taken, kind_of};
 ghost use Rattle.tool_words.specs.declared.command.Command.TheVariants as command;
@@ -12,12 +12,13 @@ ghost use Rattle.tool_words.specs.declared.command.Doing.TheVariants as doing;
 ghost use Rattle.tool_words.specs.declared.command.Verifying.TheVariants as verifying;
 
 use crate::checkpoint::CheckpointQuery;
-use crate::command::{Asking, Command, Doing, Naming, Proving, Verifying};
+use crate::command::{Asking, Command, Comparing, Doing, Naming, Proving, Verifying};
 use crate::parts::Parts;
 use crate::request::{Demands, Invocation, LogQuery, Request};
 use crate::rules::{kind_of, number_in};
 use crate::statement::{LeafIds, NamedLog, Statement, Wanted};
 use crate::task::{NewRecord, Task};
+use crate::views::{ShownIds, Views};
 use std::alloc::{AllocError, Global};
 use warg_audit::LogKind;
 
@@ -47,9 +48,9 @@ pub(crate) fn named_by(command: Command) -> usize
     ensures { result ≡ named_by command }
 {
     match command {
-        Command::LogId(_) | Command::Prove(_) | Command::Verify(_) => 3,
+        Command::LogId(_) | Command::Prove(_) | Command::Verify(_) | Command::Compare(_) => 3,
         Command::Id | Command::Audit | Command::Show | Command::Latest => 2,
-        Command::Ask(_) | Command::Do(_) | Command::Message => 2,
+        Command::Ask(_) | Command::Do(_) | Command::Message | Command::Leaf => 2,
     }
 }
 
@@ -250,6 +251,36 @@ impl<'a> Parts<'a> {
         Request::Verify { statement }
     }
 
+    // A leaf that a registry shows, by the words from a place on.
+    fn shown(&self, i: usize) -> ShownIds<'a>
+        requires { i < 8 }
+        ensures { AreShownIds i (parts_view self.now).places result }
+    {
+        ShownIds {
+            checkpoint: self.place(i),
+            leaf: self.leaf(i + 1, i + 2),
+            proof: self.place(i + 3),
+        }
+    }
+
+    // What is to be compared.
+    fn views(&self, comparing: Comparing) -> Views<'a>
+        ensures { AreViews (command.Compare comparing) (parts_view self.now).places
+            (parts_view self.now).given result }
+    {
+        match comparing {
+            Comparing::Checkpoints => {
+                let (old, new, proof) = (self.place(0), self.place(1), self.place(2));
+                Views::Checkpoints { old, new, proof }
+            }
+            Comparing::Leaves => Views::Leaves {
+                place: self.place(0),
+                old: self.shown(1),
+                new: self.shown(5),
+            },
+        }
+    }
+
     fn audit(&self, alloc: Global, kind: LogKind) -> Result<Request<'a>, AllocError>
         requires { kind ≡ kind_of (place 0 (parts_view self.now).places) }
         ensures { IfOk result (IsRequest command.Audit (parts_view self.now).places
@@ -306,7 +337,13 @@ impl<'a> Parts<'a> {
             Command::Message => Ok(Some(Request::Checkpoint {
                 query: self.message(),
             })),
+            Command::Leaf => Ok(Some(Request::Leaf {
+                leaf: self.leaf(0, 1),
+            })),
             Command::Verify(verifying) => Ok(Some(self.verdict_request(verifying))),
+            Command::Compare(comparing) => Ok(Some(Request::Compare {
+                views: self.views(comparing),
+            })),
         }
     }
 }

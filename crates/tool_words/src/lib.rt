@@ -14,6 +14,7 @@ mod statement;
 mod table;
 mod task;
 mod version;
+mod views;
 mod words;
 
 pub use checkpoint::{CheckpointQuery, Schemes};
@@ -21,4 +22,5 @@ pub use pleas::{asks_for_json, named_command};
 pub use request::{Demands, Invocation, LogQuery, Request, Said};
 pub use statement::{LeafIds, NamedLog, Statement, Wanted};
 pub use task::{NewRecord, Signer, Task};
+pub use views::{ShownIds, Views};
 pub use words::parse_words;

@@ -104,8 +104,8 @@ const OF_MAKING: &[Choice] = &[
     },
 ];
 
-/// The commands, in the order of the help.
-pub(crate) const LOG_COMMANDS: &[Row] = &[
+/// What is asked of a log, in the order of the help.
+pub(crate) const QUESTIONS: &[Row] = &[
     Row {
         name: "id",
         about: "Prints the id of one record",
@@ -208,27 +208,33 @@ pub(crate) const LOG_COMMANDS: &[Row] = &[
         ],
         choices: OF_SHOWN,
     },
-    Row {
-        name: "compare",
-        about: "Says how a log compares with an older copy of it",
-        example: "Example: weoldrin compare package older.hex log.hex
+];
+
+/// The comparison of two logs.
+pub(crate) const COMPARE: Row = Row {
+    name: "compare",
+    about: "Says how a log compares with an older copy of it",
+    example: "Example: weoldrin compare package older.hex log.hex
 
 One of the two may be -, standard input.",
-        words: &[
-            KIND,
-            Word {
-                name: "OLD",
-                form: Form::Required,
-                help: "The older copy's file",
-            },
-            Word {
-                name: "NEW",
-                form: Form::Required,
-                help: "The newer copy's file",
-            },
-        ],
-        choices: OF_LOGS,
-    },
+    words: &[
+        KIND,
+        Word {
+            name: "OLD",
+            form: Form::Required,
+            help: "The older copy's file",
+        },
+        Word {
+            name: "NEW",
+            form: Form::Required,
+            help: "The newer copy's file",
+        },
+    ],
+    choices: OF_LOGS,
+};
+
+/// What is done with a log.
+pub(crate) const TASKS: &[Row] = &[
     Row {
         name: "claims",
         about: "Lists the signatures that have to be verified of a log",

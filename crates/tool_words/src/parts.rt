@@ -97,10 +97,11 @@ fn option_of(command: Command, name: &str) -> Option<bool>
         Command::Ask(Asking::State | Asking::Resume | Asking::Permissions | Asking::Compare) =>
             log_option(name),
         Command::Verify(Verifying::Checkpoint) => log_option(name),
-        Command::Id | Command::Message | Command::Prove(_) => file_option(name),
+        Command::Id | Command::Message => file_option(name),
+        Command::Prove(_) | Command::Compare(_) => file_option(name),
         Command::Verify(Verifying::Inclusion | Verifying::Consistency) => file_option(name),
         Command::Verify(Verifying::Head | Verifying::Absence) => file_option(name),
-        Command::LogId(_) => common_option(name),
+        Command::LogId(_) | Command::Leaf => common_option(name),
     }
 }
 

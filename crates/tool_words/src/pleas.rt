@@ -28,12 +28,13 @@ fn is_name(text: &str) -> bool
     text == "log-id" || (text == "prove" || (text == "verify" || of_name(text).is_some()))
 }
 
-// Whether words name a command of a group.
-fn is_grouped(called: Option<Command>) -> bool
+/// Whether words name a command of a group.
+pub(crate) fn is_grouped(called: Option<Command>) -> bool
     ensures { result ≡ is_grouped called }
 {
     match called {
-        Some(Command::LogId(_) | Command::Prove(_) | Command::Verify(_)) => true,
+        Some(Command::LogId(_) | Command::Prove(_) | Command::Verify(_) | Command::Compare(_)) =>
+            true,
         Some(
             Command::Id
             | Command::Audit
@@ -41,7 +42,8 @@ fn is_grouped(called: Option<Command>) -> bool
             | Command::Latest
             | Command::Ask(_)
             | Command::Do(_)
-            | Command::Message,
+            | Command::Message
+            | Command::Leaf,
         ) => false,
         None => false,
     }

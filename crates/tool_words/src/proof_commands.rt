@@ -100,24 +100,33 @@ pub(crate) const PROVE: &[Row] = &[
     },
 ];
 
-/// What is signed of a checkpoint.
-pub(crate) const MESSAGE: &[Row] = &[Row {
-    name: "message",
-    about: "Prints what a registry's key signs of a checkpoint at a time, in hex",
-    example: "Example: weoldrin message checkpoint.json 1700000000
+/// The commands that print bytes in hex: those that are signed of a checkpoint, and those that the log hashes of a leaf.
+pub(crate) const ENCODINGS: &[Row] = &[
+    Row {
+        name: "message",
+        about: "Prints what a registry's key signs of a checkpoint at a time, in hex",
+        example: "Example: weoldrin message checkpoint.json 1700000000
 
 The checkpoint is as `prove checkpoint` prints it. Turn the hex digits into bytes,
 and sign these: xxd -r -p message.hex | openssl dgst -sha256 -sign KEY.pem",
-    words: &[
-        CHECKPOINT,
-        Word {
-            name: "TIME",
-            form: Form::Required,
-            help: "The checkpoint's time, in whole seconds since 1970",
-        },
-    ],
-    choices: &[JSON, LIMIT],
-}];
+        words: &[
+            CHECKPOINT,
+            Word {
+                name: "TIME",
+                form: Form::Required,
+                help: "The checkpoint's time, in whole seconds since 1970",
+            },
+        ],
+        choices: &[JSON, LIMIT],
+    },
+    Row {
+        name: "leaf",
+        about: "Prints the leaf that a record has in the registry's log, in hex",
+        example: "Example: weoldrin leaf sha256:0a1b.. sha256:2c3d..",
+        words: &[LOG_ID, RECORD_ID],
+        choices: &[JSON],
+    },
+];
 
 /// What is verified.
 pub(crate) const VERIFY: &[Row] = &[
@@ -180,6 +189,86 @@ signature. The log is audited first.",
         about: "Whether a log has no record",
         example: "Example: weoldrin verify absence checkpoint.json sha256:0a1b.. proof.txt",
         words: &[CHECKPOINT, LOG_ID, PROOF],
+        choices: &[JSON, LIMIT],
+    },
+];
+
+const OLD: Word = Word {
+    name: "OLD",
+    form: Form::Required,
+    help: "The file of the older signed checkpoint's JSON",
+};
+
+const NEW: Word = Word {
+    name: "NEW",
+    form: Form::Required,
+    help: "The file of the newer signed checkpoint's JSON",
+};
+
+/// What is compared of two views of a registry.
+pub(crate) const COMPARISONS: &[Row] = &[
+    Row {
+        name: "checkpoints",
+        about: "Says how a checkpoint compares with an older one",
+        example: "Example: weoldrin compare checkpoints old.json new.json proof.txt
+
+The checkpoints are as a registry answers them, with the members contents, keyId
+and signature. No signature is verified: `verify checkpoint` does that. The proof
+is read where the newer log is longer.",
+        words: &[
+            OLD,
+            NEW,
+            Word {
+                name: "PROOF",
+                form: Form::Input,
+                help: "The file of the text of the proof of consistency",
+            },
+        ],
+        choices: &[JSON, LIMIT],
+    },
+    Row {
+        name: "leaves",
+        about: "Says whether two checkpoints show one leaf at a place",
+        example: "Example: weoldrin compare leaves 5 old.json sha256:0a1b.. sha256:2c3d.. old.txt \\
+  new.json sha256:0a1b.. sha256:4e5f.. new.txt
+
+The checkpoints are as those of `compare checkpoints`, and the proofs are of
+inclusion.",
+        words: &[
+            PLACE,
+            OLD,
+            Word {
+                name: "OLD_LOG_ID",
+                form: Form::Required,
+                help: "The id of the log of the leaf under the older checkpoint",
+            },
+            Word {
+                name: "OLD_RECORD_ID",
+                form: Form::Required,
+                help: "The id of that leaf's record",
+            },
+            Word {
+                name: "OLD_PROOF",
+                form: Form::Required,
+                help: "The file of the text of that leaf's proof",
+            },
+            NEW,
+            Word {
+                name: "NEW_LOG_ID",
+                form: Form::Required,
+                help: "The id of the log of the leaf under the newer checkpoint",
+            },
+            Word {
+                name: "NEW_RECORD_ID",
+                form: Form::Required,
+                help: "The id of that leaf's record",
+            },
+            Word {
+                name: "NEW_PROOF",
+                form: Form::Required,
+                help: "The file of the text of that leaf's proof",
+            },
+        ],
         choices: &[JSON, LIMIT],
     },
 ];

@@ -8,8 +8,9 @@ ghost use Rattle.tool_words.specs.declared.task.NewRecord.{NewRecord as OfNewRec
 ghost use Rattle.tool_words.specs.declared.task.Task.TheVariants as task;
 
 use crate::checkpoint::CheckpointQuery;
-use crate::statement::{NamedLog, Statement, Wanted};
+use crate::statement::{LeafIds, NamedLog, Statement, Wanted};
 use crate::task::Task;
+use crate::views::Views;
 use warg_audit::LogKind;
 use warg_crypto::time::Timestamp;
 
@@ -119,6 +120,11 @@ pub enum Request<'a> {
         /// Which it is.
         log: NamedLog<'a>,
     },
+    /// The leaf that a record has in a registry's log.
+    Leaf {
+        /// The ids of the log and of the record.
+        leaf: LeafIds<'a>,
+    },
     /// What a registry is to prove.
     Prove {
         /// What it is.
@@ -130,6 +136,11 @@ pub enum Request<'a> {
     Verify {
         /// What it is.
         statement: Statement<'a>,
+    },
+    /// What is to be compared of a registry.
+    Compare {
+        /// What it is.
+        views: Views<'a>,
     },
     /// What is asked of a checkpoint.
     Checkpoint {

@@ -8,7 +8,7 @@ ghost use Rattle.tool_words.specs.Requests.{signer_view, text_in, texts};
 ghost use Rattle.tool_words.specs.Rules.{fills, has_demand, is_kind, is_make, is_number, is_one_log, is_some_stdin, is_stdin, is_taken, kind_of, limit_in, more_files, number, number_in, one_if, read_places, reads_once, schemes_in, signer_in, signer_of, stdin_files, stdin_options, stdin_places, takes_options, takes_places};
 
 use crate::checkpoint::Schemes;
-use crate::command::{Asking, Command, Doing, Proving, Verifying};
+use crate::command::{Asking, Command, Comparing, Doing, Proving, Verifying};
 use crate::invocation::words_from;
 use crate::parts::Parts;
 use crate::task::Signer;
@@ -78,7 +78,7 @@ fn read_places(command: Command) -> &'static [usize]
         Command::Ask(Asking::Chain) => &[3],
         Command::Do(Doing::Claims | Doing::Make) => &[1],
         Command::Do(Doing::Append) => &[1, 2],
-        Command::LogId(_) => &[],
+        Command::LogId(_) | Command::Leaf => &[],
         Command::Message => &[0],
         Command::Prove(Proving::Checkpoint) => &[0],
         Command::Prove(Proving::Inclusion | Proving::Consistency | Proving::Head) => &[1],
@@ -87,6 +87,8 @@ fn read_places(command: Command) -> &'static [usize]
         Command::Verify(Verifying::Consistency) => &[0, 1, 2],
         Command::Verify(Verifying::Head) => &[0, 3],
         Command::Verify(Verifying::Absence) => &[0, 2],
+        Command::Compare(Comparing::Checkpoints) => &[0, 1, 2],
+        Command::Compare(Comparing::Leaves) => &[1, 4, 5, 8],
     }
 }
 
@@ -98,8 +100,8 @@ fn is_make(command: Command) -> bool
         Command::Do(Doing::Make) => true,
         Command::Do(Doing::Claims | Doing::Append) => false,
         Command::Id | Command::Audit | Command::Show | Command::Latest => false,
-        Command::Ask(_) | Command::Message | Command::LogId(_) => false,
-        Command::Prove(_) | Command::Verify(_) => false,
+        Command::Ask(_) | Command::Message | Command::Leaf | Command::LogId(_) => false,
+        Command::Prove(_) | Command::Verify(_) | Command::Compare(_) => false,
     }
 }
 
@@ -213,8 +215,8 @@ impl<'a> Parts<'a> {
         match command {
             Command::Audit => words_from(self.places.as_slice(), 2),
             Command::Id | Command::Show | Command::Latest | Command::LogId(_) => &[],
-            Command::Message => &[],
-            Command::Ask(_) | Command::Do(_) | Command::Prove(_) | Command::Verify(_) => &[],
+            Command::Message | Command::Leaf | Command::Ask(_) | Command::Do(_) => &[],
+            Command::Prove(_) | Command::Verify(_) | Command::Compare(_) => &[],
         }
     }
 

@@ -92,6 +92,19 @@ fn command_of<'a>(alloc: Global, row: &Row) -> Result<Command<'a>, AllocError> {
     Ok(command)
 }
 
+/// The command of a row, with those of the table below it, any of which may stand in place of its words.
+pub(crate) fn command_with<'a>(
+    alloc: Global,
+    row: &Row,
+    below: &[Row],
+) -> Result<Command<'a>, AllocError> {
+    let mut command = command_of(alloc, row)?.args_conflicts_with_subcommands(true);
+    for row in below {
+        command = command.subcommand(command_of(alloc, row)?)?;
+    }
+    Ok(command)
+}
+
 /// The command with those of the table below it, one of which has to be there.
 pub(crate) fn with_commands<'a>(
     alloc: Global,

@@ -4,14 +4,14 @@ ghost use Rattle.std.specs.Prelude.{IfOk};
 ghost use Rattle.tool_words.specs.Invocations.{IsSaid};
 ghost use Rattle.tool_words.specs.Requests.{texts};
 
-use crate::command::{Command as Called, is_group};
+use crate::command::Command as Called;
 use crate::invocation::{invocation_of, named_by, word, words_from};
-use crate::log_commands::LOG_COMMANDS;
+use crate::log_commands::{COMPARE, QUESTIONS, TASKS};
 use crate::parts::Parts;
-use crate::pleas::{asks_for_text, is_help, is_version};
-use crate::proof_commands::{LOG_ID_OF, MESSAGE, PROVE, VERIFY};
+use crate::pleas::{asks_for_text, is_grouped, is_help, is_version};
+use crate::proof_commands::{COMPARISONS, ENCODINGS, LOG_ID_OF, PROVE, VERIFY};
 use crate::request::Said;
-use crate::table::with_commands;
+use crate::table::{command_with, with_commands};
 use crate::version::VERSION;
 use clap::Command;
 use clap::error::ErrorKind;
@@ -37,7 +37,12 @@ fn program<'a>(alloc: Global) -> Result<Command<'a>, AllocError> {
         .about(ABOUT)
         .after_help(AFTER)
         .arg_required_else_help(true);
-    let program = with_commands(alloc, program, LOG_COMMANDS)?;
+    let program = with_commands(alloc, program, QUESTIONS)?.subcommand(command_with(
+        alloc,
+        &COMPARE,
+        COMPARISONS,
+    )?)?;
+    let program = with_commands(alloc, program, TASKS)?;
     let log_id = Command::new(alloc, "log-id").about(
         "Prints the id that a log has in a registry, by its name",
     );
@@ -51,7 +56,7 @@ fn program<'a>(alloc: Global) -> Result<Command<'a>, AllocError> {
         .subcommand(with_commands(alloc, log_id, LOG_ID_OF)?)?
         .subcommand(with_commands(alloc, prove, PROVE)?)?
         .subcommand(with_commands(alloc, verify, VERIFY)?)?;
-    with_commands(alloc, program, MESSAGE)
+    with_commands(alloc, program, ENCODINGS)
 }
 
 // What clap says of words, and whether that is a fault; nothing where it takes them.
@@ -83,7 +88,7 @@ fn help(alloc: Global, words: &[&str]) -> Result<String, AllocError> {
         }
     } else if !is_help(first) {
         asked.push(first)?;
-        if is_group(first) && Called::of(first, second).is_some() {
+        if is_grouped(Called::of(first, second)) {
             asked.push(second)?;
         }
     }

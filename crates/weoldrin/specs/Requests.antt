@@ -19,6 +19,8 @@ use Rattle.warg_audit.specs.Files.Files.{Files}
 use Rattle.tool_changes.specs.JsonLines.{IsInJson}
 use Rattle.tool_changes.specs.ManyAudits.{IsManyAnswer, IsOneAnswer}
 use Rattle.tool_checkpoints.specs.CheckpointAnswers.{IsCheckpointAnswer}
+use Rattle.tool_checkpoints.specs.Comparisons.{IsViewsAnswer}
+use Rattle.tool_checkpoints.specs.LeafTexts.{IsLeafAnswer}
 use Rattle.tool_checkpoints.specs.LogIdTexts.{IsLogIdAnswer}
 use Rattle.tool_checkpoints.specs.ProofTexts.{IsProofAnswer}
 use Rattle.tool_checkpoints.specs.Proofs.{IsStatementVerdict}
@@ -92,8 +94,10 @@ IsRequestAnswer json belongs old new (request.Audits kind paths allows_empty) pr
 IsRequestAnswer json belongs old new (request.Show kind path) printed = IsShownAnswer kind belongs old path.now printed
 IsRequestAnswer json belongs old new (request.Latest requirement path) printed = IsLatestAnswer belongs old requirement.now path.now printed
 IsRequestAnswer json belongs old new (request.LogId log) printed = IsLogIdAnswer log printed
+IsRequestAnswer json belongs old new (request.Leaf leaf) printed = IsLeafAnswer leaf printed
 IsRequestAnswer json belongs old new (request.Prove wanted path) printed = IsProofAnswer old wanted path.now printed
 IsRequestAnswer json belongs old new (request.Verify statement) printed = IsStatementVerdict old statement printed
+IsRequestAnswer json belongs old new (request.Compare views) printed = IsViewsAnswer old views printed
 IsRequestAnswer json belongs old new (request.Checkpoint query) printed = IsCheckpointAnswer old belongs query printed
 IsRequestAnswer json belongs old new (request.Ask kind question) printed = IsAskedAnswer kind belongs old question printed
 IsRequestAnswer json belongs old new (request.Do kind task) printed = IsDoneAnswer kind belongs old new task printed
@@ -106,8 +110,10 @@ RequestLeaves belongs old new (request.Audits kind paths allows_empty) = new ≡
 RequestLeaves belongs old new (request.Show kind path) = new ≡ old
 RequestLeaves belongs old new (request.Latest requirement path) = new ≡ old
 RequestLeaves belongs old new (request.LogId log) = new ≡ old
+RequestLeaves belongs old new (request.Leaf leaf) = new ≡ old
 RequestLeaves belongs old new (request.Prove wanted path) = new ≡ old
 RequestLeaves belongs old new (request.Verify statement) = new ≡ old
+RequestLeaves belongs old new (request.Compare views) = new ≡ old
 RequestLeaves belongs old new (request.Checkpoint query) = new ≡ old
 RequestLeaves belongs old new (request.Ask kind question) = new ≡ old
 RequestLeaves belongs old new (request.Do kind task) = DoneLeaves kind belongs old new task
@@ -120,8 +126,10 @@ is_many (request.Audits kind paths allows_empty) = true
 is_many (request.Show kind path) = false
 is_many (request.Latest requirement path) = false
 is_many (request.LogId log) = false
+is_many (request.Leaf leaf) = false
 is_many (request.Prove wanted path) = false
 is_many (request.Verify statement) = false
+is_many (request.Compare views) = false
 is_many (request.Checkpoint query) = false
 is_many (request.Ask kind question) = false
 is_many (request.Do kind task) = false

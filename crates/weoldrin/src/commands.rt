@@ -17,7 +17,9 @@ use std::alloc::{AllocError, Global};
 use tool_changes::{
     Audit, audits_answer, id_answer, json_answer, latest_answer, requirement_of, task_answer,
 };
-use tool_checkpoints::{checkpoint_answer, log_id_answer, prove_answer, verify_answer};
+use tool_checkpoints::{
+    checkpoint_answer, compare_answer, leaf_answer, log_id_answer, prove_answer, verify_answer,
+};
 use tool_layout::Look;
 use tool_questions::question_answer;
 use tool_questions::show::show_of_file;
@@ -190,8 +192,10 @@ fn request_answer<V: Verifier, S: Store>(
             latest_of_file(alloc, verifier, requirement, log, store)
         }
         Request::LogId { log } => log_id_answer(alloc, log),
+        Request::Leaf { leaf } => leaf_answer(alloc, leaf),
         Request::Prove { wanted, leaves } => prove_answer(alloc, wanted, leaves, store),
         Request::Verify { statement } => verify_answer(alloc, statement, store),
+        Request::Compare { views } => compare_answer(alloc, views, store),
         Request::Checkpoint { query } => checkpoint_answer(alloc, verifier, query, store),
         Request::Ask { kind, question } => asked_answer(alloc, verifier, *kind, question, store),
         Request::Do { kind, task } => done_answer(alloc, verifier, *kind, task, store),
@@ -244,8 +248,10 @@ fn is_many(request: &Request<'_>) -> bool
         | Request::Show { .. }
         | Request::Latest { .. }
         | Request::LogId { .. }
+        | Request::Leaf { .. }
         | Request::Prove { .. }
         | Request::Verify { .. }
+        | Request::Compare { .. }
         | Request::Checkpoint { .. }
         | Request::Ask { .. }
         | Request::Do { .. } => false,

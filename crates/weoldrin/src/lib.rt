@@ -15,7 +15,7 @@ pub use schemes::KnownSchemes;
 pub use tool_layout::{Look, NameFault, Names, NamesParseError};
 pub use tool_words::{
     CheckpointQuery, Demands, Invocation, LeafIds, LogQuery, NamedLog, NewRecord, Request, Schemes,
-    Signer, Statement, Task, Wanted,
+    ShownIds, Signer, Statement, Task, Views, Wanted,
 };
 pub use warg_audit::LogKind;
 pub use warg_audit::files::change::{HoldError, UnwrittenError, WriteError};

@@ -46,8 +46,10 @@ fn layout(
         | Request::Audits { .. }
         | Request::Latest { .. }
         | Request::LogId { .. }
+        | Request::Leaf { .. }
         | Request::Prove { .. }
         | Request::Verify { .. }
+        | Request::Compare { .. }
         | Request::Checkpoint { .. }
         | Request::Do { .. } => Ok(text),
     }

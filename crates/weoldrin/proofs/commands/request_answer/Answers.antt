@@ -37,6 +37,12 @@ returns-in-LogId-clause-answered g c = rw c.in-LogId.is c.log_id_answer.ensures
 pub returns-in-LogId-clause-files : goal.returns-in-LogId-clause-files
 returns-in-LogId-clause-files g c = rw c.in-LogId.is refl
 
+pub returns-in-Leaf-clause-answered : goal.returns-in-Leaf-clause-answered
+returns-in-Leaf-clause-answered g c = rw c.in-Leaf.is c.leaf_answer.ensures
+
+pub returns-in-Leaf-clause-files : goal.returns-in-Leaf-clause-files
+returns-in-Leaf-clause-files g c = rw c.in-Leaf.is refl
+
 pub returns-in-Prove-clause-answered : goal.returns-in-Prove-clause-answered
 returns-in-Prove-clause-answered g c = rw c.in-Prove.is c.prove_answer.ensures.answered
 
@@ -48,6 +54,12 @@ returns-in-Verify-clause-answered g c = rw c.in-Verify.is c.verify_answer.ensure
 
 pub returns-in-Verify-clause-files : goal.returns-in-Verify-clause-files
 returns-in-Verify-clause-files g c = rw c.in-Verify.is c.verify_answer.ensures.kept
+
+pub returns-in-Compare-clause-answered : goal.returns-in-Compare-clause-answered
+returns-in-Compare-clause-answered g c = rw c.in-Compare.is c.compare_answer.ensures.answered
+
+pub returns-in-Compare-clause-files : goal.returns-in-Compare-clause-files
+returns-in-Compare-clause-files g c = rw c.in-Compare.is c.compare_answer.ensures.kept
 
 pub returns-in-Checkpoint-clause-answered : goal.returns-in-Checkpoint-clause-answered
 returns-in-Checkpoint-clause-answered g c = rw c.in-Checkpoint.is c.checkpoint_answer.ensures.answered

@@ -1,0 +1,37 @@
+//! What two views of a registry are compared by.
+
+use crate::statement::LeafIds;
+
+/// A leaf that a registry shows, with the paths of the files.
+#[derive(Clone, Copy, Debug, PartialEq, Eq)]
+pub struct ShownIds<'a> {
+    /// The signed checkpoint.
+    pub checkpoint: &'a str,
+    /// The leaf.
+    pub leaf: LeafIds<'a>,
+    /// The proof that the leaf stands in the checkpoint's log.
+    pub proof: &'a str,
+}
+
+/// Two views of a registry, with the paths of the files.
+#[derive(Clone, Copy, Debug, PartialEq, Eq)]
+pub enum Views<'a> {
+    /// Two checkpoints.
+    Checkpoints {
+        /// The older signed checkpoint.
+        old: &'a str,
+        /// The newer one.
+        new: &'a str,
+        /// The proof that the log of the newer one goes on from that of the older one.
+        proof: &'a str,
+    },
+    /// The leaves at a place.
+    Leaves {
+        /// The place, counted from 0.
+        place: &'a str,
+        /// The leaf under the older checkpoint.
+        old: ShownIds<'a>,
+        /// The leaf under the newer one.
+        new: ShownIds<'a>,
+    },
+}
