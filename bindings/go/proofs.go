@@ -99,6 +99,50 @@ func CompareLeaves(place uint64, older, newer ShownLeaf) (LeafComparison, error)
 	return LeafComparison(found), nil
 }
 
+// ShownBeginning is a checkpoint, and the proof that is to show that the log of a newer one begins with its own, as
+// VerifyConsistency takes it under the length and the root of the newer checkpoint's log.
+type ShownBeginning struct {
+	Checkpoint Checkpoint
+	Proof      string
+}
+
+// CompareHeads is how two answers about the last record of one log compare that are shown under one root of a
+// registry's map, as two clients may have been shown them: each a record's id with its proof as VerifyPresence takes it,
+// or an empty text, which is no record, with one as VerifyAbsence takes it. The error is one as VerifyInclusion returns
+// it.
+func CompareHeads(mapRoot, logID string, one, other Head) (HeadComparison, error) {
+	root, log := []byte(mapRoot), []byte(logID)
+	record, proof := []byte(one.RecordID), []byte(one.Proof)
+	otherRecord, otherProof := []byte(other.RecordID), []byte(other.Proof)
+	var found C.uint32_t
+	status := C.warg_compare_heads(at(root), size(root), at(log), size(log), at(record), size(record),
+		at(proof), size(proof), at(otherRecord), size(otherRecord), at(otherProof), size(otherProof), &found)
+	if uint32(status) != ok {
+		return 0, misused(status, mapTree, proof, otherProof)
+	}
+	return HeadComparison(found), nil
+}
+
+// CompareBeginnings is how two checkpoints of a registry compare that the log of a newer one is shown to begin with, as
+// two clients may have been shown them. Of the newer one's map nothing is asked, and their times are not compared. The
+// error is one as VerifyInclusion returns it.
+func CompareBeginnings(newer Checkpoint, one, other ShownBeginning) (BeginningComparison, error) {
+	root := []byte(newer.LogRoot)
+	oneLog, oneMap, proof := []byte(one.Checkpoint.LogRoot), []byte(one.Checkpoint.MapRoot), []byte(one.Proof)
+	otherLog, otherMap := []byte(other.Checkpoint.LogRoot), []byte(other.Checkpoint.MapRoot)
+	otherProof := []byte(other.Proof)
+	var found C.uint32_t
+	status := C.warg_compare_beginnings(C.uint64_t(newer.LogLength), at(root), size(root),
+		C.uint64_t(one.Checkpoint.LogLength), at(oneLog), size(oneLog), at(oneMap), size(oneMap),
+		at(proof), size(proof),
+		C.uint64_t(other.Checkpoint.LogLength), at(otherLog), size(otherLog), at(otherMap), size(otherMap),
+		at(otherProof), size(otherProof), &found)
+	if uint32(status) != ok {
+		return 0, misused(status, logTree, proof, otherProof)
+	}
+	return BeginningComparison(found), nil
+}
+
 // shown is the answer of a call on a proof: where an argument is bad and that is the proof, its fault is told.
 func shown(status rawStatus, tree C.uint32_t, proof []byte) (bool, error) {
 	if uint32(status) != badArgument {

@@ -208,3 +208,54 @@ func (c LeafComparison) String() string {
 	}
 	return fmt.Sprintf("LeafComparison(%d)", uint32(c))
 }
+
+// HeadComparison is how two answers about the last record of one log compare that are shown under one root of a
+// registry's map.
+type HeadComparison uint32
+
+const (
+	// HeadSame is where both proofs hold, and the answers are one: one record, or none.
+	HeadSame HeadComparison = 0
+	// HeadTwo is where both proofs hold, of two records: two strings collide.
+	HeadTwo HeadComparison = 1
+	// HeadOneAndNone is where both proofs hold, of a record and of none: two strings collide.
+	HeadOneAndNone HeadComparison = 2
+	// HeadNotShown is where one of the proofs does not hold.
+	HeadNotShown HeadComparison = 3
+)
+
+// String is the name of a comparison.
+func (c HeadComparison) String() string {
+	names := []string{"same", "two", "one and none", "not shown"}
+	if int(c) < len(names) {
+		return names[c]
+	}
+	return fmt.Sprintf("HeadComparison(%d)", uint32(c))
+}
+
+// BeginningComparison is how two checkpoints of a registry compare that the log of a newer one is shown to begin with.
+type BeginningComparison uint32
+
+const (
+	// BeginningSame is where both proofs hold, and the lengths and both roots are equal.
+	BeginningSame BeginningComparison = 0
+	// BeginningFork is where both proofs hold, the lengths and the logs' roots are equal, and the maps' roots differ: no
+	// list of leaves has both. Two signatures show that the registry forked.
+	BeginningFork BeginningComparison = 1
+	// BeginningCollision is where both proofs hold, the lengths are equal, and the logs' roots differ: two strings
+	// collide.
+	BeginningCollision BeginningComparison = 2
+	// BeginningTwoLengths is where both proofs hold, and the lengths differ: nothing is said against the two.
+	BeginningTwoLengths BeginningComparison = 3
+	// BeginningNotShown is where one of the proofs does not hold.
+	BeginningNotShown BeginningComparison = 4
+)
+
+// String is the name of a comparison.
+func (c BeginningComparison) String() string {
+	names := []string{"same", "fork", "collision", "two lengths", "not shown"}
+	if int(c) < len(names) {
+		return names[c]
+	}
+	return fmt.Sprintf("BeginningComparison(%d)", uint32(c))
+}

@@ -136,6 +136,33 @@ enum warg_leaf_case {
     WARG_LEAF_NOT_SHOWN = 2
 };
 
+/* How two answers about the head of one log compare that are shown under one root of a registry's map. */
+enum warg_head_case {
+    /* Both proofs hold, and the answers are one: one head, or none. */
+    WARG_HEAD_SAME = 0,
+    /* Both proofs hold, of two heads: two strings collide. */
+    WARG_HEAD_TWO = 1,
+    /* Both proofs hold, of a head and of none: two strings collide. */
+    WARG_HEAD_ONE_AND_NONE = 2,
+    /* One of the proofs does not hold. */
+    WARG_HEAD_NOT_SHOWN = 3
+};
+
+/* How two checkpoints of a registry compare that the log of a newer one is shown to begin with. */
+enum warg_beginning_case {
+    /* Both proofs hold, and the lengths and both roots are equal. */
+    WARG_BEGINNING_SAME = 0,
+    /* Both proofs hold, the lengths and the logs' roots are equal, and the maps' roots differ: no list of leaves has both. Two signatures show
+     * that the registry forked. */
+    WARG_BEGINNING_FORK = 1,
+    /* Both proofs hold, the lengths are equal, and the logs' roots differ: two strings collide. */
+    WARG_BEGINNING_COLLISION = 2,
+    /* Both proofs hold, and the lengths differ: nothing is said against the two. */
+    WARG_BEGINNING_TWO_LENGTHS = 3,
+    /* One of the proofs does not hold. */
+    WARG_BEGINNING_NOT_SHOWN = 4
+};
+
 /* A log, or none: all bytes 0 is none. */
 struct warg_log {
     void *at;
@@ -460,6 +487,31 @@ uint32_t warg_compare_leaves(uint64_t place, uint64_t old_length, const uint8_t 
                              const uint8_t *new_root, size_t new_root_len, const uint8_t *new_log_id, size_t new_log_id_len,
                              const uint8_t *new_record_id, size_t new_record_id_len, const uint8_t *new_proof,
                              size_t new_proof_len, uint32_t *comparison);
+
+/* Whether what a registry showed twice under one root can both be so. These are functions of their arguments alone, as those of proofs are, and
+ * ask the registry for nothing. Two clients tell a contradiction by them from what each was shown.
+ *   WARG_OK: `comparison` says how the two compare. Where two strings collide, they differ and have one hash, and are hashed at one place on
+ *     two ways to the root, those of the two proofs.
+ *   WARG_BAD_ARGUMENT: a text is not of its form. `warg_proof_fault` says what is wrong with a proof's.
+ *   WARG_OUT_OF_MEMORY: nothing is said. The texts before the first proof are of their form. */
+
+/* Compares two answers about the head of one log under one root of a registry's map: the id of the record that is the log's last, by a proof as
+ * `warg_verify_presence` takes it, or "" where the log is to have none, by a proof as `warg_verify_absence` takes it.
+ *   WARG_OK: `comparison` is one of `enum warg_head_case`. */
+uint32_t warg_compare_heads(const uint8_t *map_root, size_t map_root_len, const uint8_t *log_id, size_t log_id_len,
+                            const uint8_t *one_record_id, size_t one_record_id_len, const uint8_t *one_proof,
+                            size_t one_proof_len, const uint8_t *other_record_id, size_t other_record_id_len,
+                            const uint8_t *other_proof, size_t other_proof_len, uint32_t *comparison);
+
+/* Compares two checkpoints of a registry, each with a proof as `warg_verify_consistency` takes it that the log of one newer checkpoint, which has
+ * `new_length` leaves and this root, begins with its own. Their times are not compared.
+ *   WARG_OK: `comparison` is one of `enum warg_beginning_case`. */
+uint32_t warg_compare_beginnings(uint64_t new_length, const uint8_t *new_root, size_t new_root_len, uint64_t one_length,
+                                 const uint8_t *one_log_root, size_t one_log_root_len, const uint8_t *one_map_root,
+                                 size_t one_map_root_len, const uint8_t *one_proof, size_t one_proof_len, uint64_t other_length,
+                                 const uint8_t *other_log_root, size_t other_log_root_len, const uint8_t *other_map_root,
+                                 size_t other_map_root_len, const uint8_t *other_proof, size_t other_proof_len,
+                                 uint32_t *comparison);
 
 /* The trees of a registry, for who keeps one: the log of all leaves, and the map of the heads of logs. Ids are texts
  * of ids, roots are texts of hashes (`sha256:` and 64 digits of hex). */

@@ -1,8 +1,9 @@
 //! What a registry proves of its log and its map. Roots are texts of hashes, ids are texts of ids, proofs are texts of base64.
 //!
-//! `verify_inclusion` and its like say whether the proof holds. [`compare_checkpoints`] and [`compare_leaves`] say how what a registry
-//! signed goes with what it signed before, or with what it showed to another. The error is [`Error::BadArgument`] where a text is not of its form. If that is the proof's, the
-//! fault is named: `TooLong`, `BadBase64`, `BadLength` or `EmptySibling`.
+//! `verify_inclusion` and its like say whether the proof holds. [`compare_checkpoints`], [`compare_leaves`], [`compare_heads`] and
+//! [`compare_beginnings`] say how what a registry signed goes with what it signed before, or with what it showed to another. The error is
+//! [`Error::BadArgument`] where a text is not of its form. If that is the proof's, the fault is named: `TooLong`, `BadBase64`,
+//! `BadLength` or `EmptySibling`.
 //!
 //! What an accepted proof shows is so of every log of that length and root, and of every map of that root, or two strings that differ
 //! have one hash. No call knows whose root it is, or how long its log is: take a log's length and root, and the map's root, from one
@@ -11,6 +12,7 @@ use crate::buffer;
 use crate::checkpoint::Checkpoint;
 use crate::error::{Error, Reason};
 use crate::raw;
+use crate::registry_trees::Head;
 
 const BAD_TEXT: &[u8] = b"BadText: a root or an id is not the text of one";
 
@@ -142,6 +144,44 @@ pub struct ShownLeaf<'a> {
     pub proof: &'a str,
 }
 
+/// How two answers about the last record of one log compare that are shown under one root of a registry's map.
+#[derive(Clone, Copy, Debug, PartialEq, Eq, Hash)]
+pub enum HeadComparison {
+    /// Both proofs hold, and the answers are one: one record, or none.
+    Same,
+    /// Both proofs hold, of two records: two strings collide.
+    Two,
+    /// Both proofs hold, of a record and of none: two strings collide.
+    OneAndNone,
+    /// One of the proofs does not hold.
+    NotShown,
+}
+
+/// How two checkpoints of a registry compare that the log of a newer one is shown to begin with.
+#[derive(Clone, Copy, Debug, PartialEq, Eq, Hash)]
+pub enum BeginningComparison {
+    /// Both proofs hold, and the lengths and both roots are equal.
+    Same,
+    /// Both proofs hold, the lengths and the logs' roots are equal, and the maps' roots differ: no list of leaves has both.
+    /// Two signatures show that the registry forked.
+    Fork,
+    /// Both proofs hold, the lengths are equal, and the logs' roots differ: two strings collide.
+    Collision,
+    /// Both proofs hold, and the lengths differ: nothing is said against the two.
+    TwoLengths,
+    /// One of the proofs does not hold.
+    NotShown,
+}
+
+/// A checkpoint, and the proof that is to show that the log of a newer one begins with its own.
+#[derive(Clone, Copy, Debug)]
+pub struct ShownBeginning<'a> {
+    /// The checkpoint, whose time is not looked at.
+    pub checkpoint: &'a Checkpoint,
+    /// As [`verify_consistency`] takes it under the length and the root of the newer checkpoint's log.
+    pub proof: &'a str,
+}
+
 /// How a checkpoint of a registry compares with an older one, by a proof as [`verify_consistency`] takes it, which is looked at
 /// where the newer log is longer, and may be the empty text elsewhere. Their times are not compared, and whether they are signed is
 /// for an [`OperatorLog`](crate::OperatorLog) to say.
@@ -216,6 +256,100 @@ pub fn compare_leaves(place: u64, old: &ShownLeaf<'_>, new: &ShownLeaf<'_>) -> R
     }
 }
 
+/// How two answers about the last record of one log compare that are shown under one root of a registry's map, as two
+/// clients may have been shown them: each a record's id with its proof as [`verify_presence`] takes it, or none with one as
+/// [`verify_absence`] takes it. An empty text is no id.
+pub fn compare_heads(map_root: &str, log_id: &str, one: &Head, other: &Head) -> Result<HeadComparison, Error> {
+    let proofs = [one.proof.as_str(), other.proof.as_str()];
+    let records = [one, other].map(|it| it.record_id.as_deref());
+    if records.contains(&Some("")) {
+        return Err(misused(raw::BAD_ARGUMENT, raw::MAP_TREE, &proofs));
+    }
+    // The library has an empty text for none.
+    let [record, other_record] = records.map(Option::unwrap_or_default);
+    let mut case = 0;
+    // SAFETY: each pointer goes with the length of its slice (`raw`).
+    let status = unsafe {
+        raw::warg_compare_heads(
+            map_root.as_ptr(),
+            map_root.len(),
+            log_id.as_ptr(),
+            log_id.len(),
+            record.as_ptr(),
+            record.len(),
+            one.proof.as_ptr(),
+            one.proof.len(),
+            other_record.as_ptr(),
+            other_record.len(),
+            other.proof.as_ptr(),
+            other.proof.len(),
+            &mut case,
+        )
+    };
+    if status != raw::OK {
+        return Err(misused(status, raw::MAP_TREE, &proofs));
+    }
+    Ok(head_case(case))
+}
+
+/// How two checkpoints of a registry compare that the log of a newer one is shown to begin with, as two clients may have
+/// been shown them. Of the newer one's map nothing is asked, and their times are not compared.
+pub fn compare_beginnings(
+    new: &Checkpoint,
+    one: &ShownBeginning<'_>,
+    other: &ShownBeginning<'_>,
+) -> Result<BeginningComparison, Error> {
+    let mut case = 0;
+    // SAFETY: each pointer goes with the length of its slice (`raw`).
+    let status = unsafe {
+        raw::warg_compare_beginnings(
+            new.log_length,
+            new.log_root.as_ptr(),
+            new.log_root.len(),
+            one.checkpoint.log_length,
+            one.checkpoint.log_root.as_ptr(),
+            one.checkpoint.log_root.len(),
+            one.checkpoint.map_root.as_ptr(),
+            one.checkpoint.map_root.len(),
+            one.proof.as_ptr(),
+            one.proof.len(),
+            other.checkpoint.log_length,
+            other.checkpoint.log_root.as_ptr(),
+            other.checkpoint.log_root.len(),
+            other.checkpoint.map_root.as_ptr(),
+            other.checkpoint.map_root.len(),
+            other.proof.as_ptr(),
+            other.proof.len(),
+            &mut case,
+        )
+    };
+    if status != raw::OK {
+        return Err(misused(status, raw::LOG_TREE, &[one.proof, other.proof]));
+    }
+    Ok(beginning_case(case))
+}
+
+// The case of its number.
+fn head_case(number: u32) -> HeadComparison {
+    match number {
+        0 => HeadComparison::Same,
+        1 => HeadComparison::Two,
+        2 => HeadComparison::OneAndNone,
+        _ => HeadComparison::NotShown,
+    }
+}
+
+// The case of its number.
+fn beginning_case(number: u32) -> BeginningComparison {
+    match number {
+        0 => BeginningComparison::Same,
+        1 => BeginningComparison::Fork,
+        2 => BeginningComparison::Collision,
+        3 => BeginningComparison::TwoLengths,
+        _ => BeginningComparison::NotShown,
+    }
+}
+
 fn said(status: u32, tree: u32, proof: &str) -> Result<bool, Error> {
     match status {
         raw::OK => Ok(true),
@@ -246,4 +380,24 @@ fn fault_of(tree: u32, proof: &str) -> Result<Option<Reason>, Error> {
         raw::warg_proof_fault(tree, proof.as_ptr(), proof.len(), text.as_mut_ptr(), text.len(), used)
     })?;
     Ok(name.map(|it| Reason { name: buffer::text_of(it), sentence: String::new() }))
+}
+
+#[cfg(test)]
+mod tests {
+    use super::{beginning_case, head_case, BeginningComparison, HeadComparison};
+
+    /// Each number of the library has its case: no proofs are known that collide.
+    #[test]
+    fn cases_of_numbers() {
+        let heads = [HeadComparison::Same, HeadComparison::Two, HeadComparison::OneAndNone, HeadComparison::NotShown];
+        let beginnings = [
+            BeginningComparison::Same,
+            BeginningComparison::Fork,
+            BeginningComparison::Collision,
+            BeginningComparison::TwoLengths,
+            BeginningComparison::NotShown,
+        ];
+        assert_eq!([0, 1, 2, 3].map(head_case), heads);
+        assert_eq!([0, 1, 2, 3, 4].map(beginning_case), beginnings);
+    }
 }

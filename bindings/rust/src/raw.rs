@@ -361,6 +361,41 @@ extern "C" {
         new_proof_len: usize,
         comparison: *mut u32,
     ) -> u32;
+    pub(crate) fn warg_compare_heads(
+        map_root: *const u8,
+        map_root_len: usize,
+        log_id: *const u8,
+        log_id_len: usize,
+        one_record_id: *const u8,
+        one_record_id_len: usize,
+        one_proof: *const u8,
+        one_proof_len: usize,
+        other_record_id: *const u8,
+        other_record_id_len: usize,
+        other_proof: *const u8,
+        other_proof_len: usize,
+        comparison: *mut u32,
+    ) -> u32;
+    pub(crate) fn warg_compare_beginnings(
+        new_length: u64,
+        new_root: *const u8,
+        new_root_len: usize,
+        one_length: u64,
+        one_log_root: *const u8,
+        one_log_root_len: usize,
+        one_map_root: *const u8,
+        one_map_root_len: usize,
+        one_proof: *const u8,
+        one_proof_len: usize,
+        other_length: u64,
+        other_log_root: *const u8,
+        other_log_root_len: usize,
+        other_map_root: *const u8,
+        other_map_root_len: usize,
+        other_proof: *const u8,
+        other_proof_len: usize,
+        comparison: *mut u32,
+    ) -> u32;
     pub(crate) fn warg_registry_open(registry: *mut Registry) -> u32;
     pub(crate) fn warg_registry_close(registry: *mut Registry);
     pub(crate) fn warg_registry_push(

@@ -1,48 +1,13 @@
 //! What two checkpoints of a registry are to each other, and two leaves at one place of its log.
 use weoldrin::proofs::{compare_checkpoints, compare_leaves, CheckpointComparison, LeafComparison, ShownLeaf};
-use weoldrin::{Checkpoint, Error, RegistryTrees};
+use weoldrin::{Checkpoint, Error};
+
+mod registries;
+use registries::{changed, fault_of, id, upper, Made, LENGTH, NO_TEXTS, PARTED};
 
 type Tested = Result<(), Error>;
 
-const LENGTH: u64 = 9;
-// At this place a forked registry has another leaf, of a log that has no other one.
-const PARTED: u64 = 4;
-const NO_TEXTS: [&str; 6] = ["", "sha256", "sha256:00", "!", "\0", "é"];
-
-/// The text of an id that has this number in its last bytes.
-fn id(number: u64) -> String {
-    format!("sha256:{number:064x}")
-}
-
-/// The same hash in capitals.
-fn upper(text: &str) -> String {
-    text.to_uppercase().replace("SHA", "sha")
-}
-
-/// A registry of so many leaves, forked or not, with its checkpoint.
-struct Made {
-    trees: RegistryTrees,
-    checkpoint: Checkpoint,
-    leaves: Vec<[String; 2]>,
-}
-
 impl Made {
-    fn new(size: u64, is_forked: bool) -> Result<Self, Error> {
-        let (mut trees, mut leaves) = (RegistryTrees::new()?, Vec::new());
-        for place in 0..size {
-            let log = id(if place == PARTED { 0xabc } else { place % 3 });
-            let record = id(if place == PARTED && is_forked { 0xf0f } else { 0x100 + place });
-            trees.push(&log, &record)?;
-            leaves.push([log, record]);
-        }
-        let checkpoint = trees.checkpoint(size)?;
-        Ok(Made { trees, checkpoint, leaves })
-    }
-
-    fn consistency(&self, first: u64) -> String {
-        self.trees.consistency(first).expect("an answer").expect("a proof")
-    }
-
     fn inclusion(&self, place: u64) -> String {
         self.trees.inclusion(place).expect("an answer").expect("a proof")
     }
@@ -50,20 +15,6 @@ impl Made {
     fn shown<'a>(&'a self, place: u64, proof: &'a str) -> ShownLeaf<'a> {
         let [log_id, record_id] = &self.leaves[place as usize];
         ShownLeaf { checkpoint: &self.checkpoint, log_id, record_id, proof }
-    }
-}
-
-/// The proof with another digit in its last hash.
-fn changed(proof: &str) -> String {
-    let (start, end) = proof.split_at(proof.len() - 8);
-    format!("{start}{}{}", if end.starts_with('A') { 'B' } else { 'A' }, &end[1..])
-}
-
-/// The name of the fault that an answer says.
-fn fault_of<T: std::fmt::Debug>(answer: Result<T, Error>) -> String {
-    match answer {
-        Err(Error::BadArgument(Some(reason))) => reason.name,
-        _ => format!("{answer:?}"),
     }
 }
 
