@@ -144,7 +144,8 @@ const calls = (it) => ({
   "warg_compare_leaves of nonsense": () => library.compareLeaves(5, shown, { ...shown, proof: "x" }),
   warg_compare_heads: () => library.compareHeads(root, root, head, { ...head, recordId: null }),
   "warg_compare_heads of nonsense": () => library.compareHeads(root, root, head, { ...head, proof: "x" }),
-  warg_compare_beginnings: () => library.compareBeginnings(shown.checkpoint, { checkpoint, proof }, { checkpoint, proof }),
+  warg_compare_beginnings: () =>
+    library.compareBeginnings(shown.checkpoint, { checkpoint, proof }, { checkpoint, proof }),
   "warg_compare_beginnings of nonsense": () =>
     library.compareBeginnings(shown.checkpoint, { checkpoint, proof }, { checkpoint, proof: "x" }),
   warg_version: () => library.version(),

@@ -66,8 +66,9 @@ const VALUES = {
   "--goes-on-from": "<FILE>",
 };
 // Commands that the tool of the repository has beside, which has no other of this name.
-const OTHERS =
-  "id show state resume latest permissions chain compare claims make append log-id prove verify message leaf".split(" ");
+const OTHERS = (
+  "id show state resume latest permissions chain compare claims make append log-id prove verify message leaf"
+).split(" ");
 
 const MORE = "\n\nFor more information, try '--help'.";
 

@@ -233,6 +233,7 @@ test("where growth is refused, each call says so or does without, and the log is
   const signature = await alice.sign(library.checkpointMessage(checkpoint));
   const saved = log.toJson();
   const shown = { checkpoint: { ...checkpoint, logLength: 2 ** 40 }, logId: root, recordId: root, proof };
+  const head = { recordId: null, proof: Buffer.alloc(32, 255).toString("base64") };
   const calls = {
     ask: () => log.ask(made[3]),
     "ask what is refused": () => log.ask(made[0]),
@@ -263,6 +264,8 @@ test("where growth is refused, each call says so or does without, and the log is
     verify_consistency: () => library.verifyConsistency(3, root, 2 ** 40, root, proof),
     compare_checkpoints: () => library.compareCheckpoints(checkpoint, { ...checkpoint, logLength: 2 ** 40 }, proof),
     compare_leaves: () => library.compareLeaves(0, shown, shown),
+    compare_heads: () => library.compareHeads(root, root, head, head),
+    compare_beginnings: () => library.compareBeginnings(shown.checkpoint, { checkpoint, proof }, { checkpoint, proof }),
     verify_presence: () => library.verifyPresence(root, root, root, Buffer.alloc(32, 255).toString("base64")),
     verify_absence: () => library.verifyAbsence(root, root, Buffer.alloc(32, 255).toString("base64")),
     proof_fault: () => library.verifyAbsence(root, root, "x"),

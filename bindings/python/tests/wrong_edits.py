@@ -240,7 +240,7 @@ WRONG: dict[str, Wrong] = {
         "proofs.py", "proof in (old, new)\n", "proof in (new, new)\n",
         f"{COMPARED}.Leaves.test_forked"),
     "the fault of the newer proof alone is told": (
-        "proofs.py", '"compare_leaves", passed, words[0][-2:], words[1][-2:]', '"compare_leaves", passed, words[1][-2:]',
+        "proofs.py", '"compare_leaves", passed, words[0][-2:], words', '"compare_leaves", passed, words',
         f"{COMPARED}.Leaves.test_faults"),
     "the second answer is compared with itself": (
         "proofs.py", "it.proof) for it in (one, other)]", "it.proof) for it in (other, other)]",
