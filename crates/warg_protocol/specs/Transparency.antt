@@ -18,6 +18,10 @@ pub use Rattle.warg_transparency.specs.Contradictions.{ShowsBeginning, ShowsLeaf
 pub use Rattle.warg_transparency.specs.Contradictions.{beginning_inputs, leaf_inputs, nothing_inputs}
 -- what two clients hold
 pub use Rattle.warg_transparency.specs.Forks.{AreShownAt, CollidesAt, IsFork, IsLeafFork, IsNotShownToGoOn, IsOneLeaf, IsShownAt, IsShownToGoOn}
+-- what a registry shows twice, of the head of a log and of the beginning of its own
+pub use Rattle.warg_transparency.specs.ShownTwice.{AreHeadAndNone, AreHeadsShown, AreTwoHeads, IsOneHead, IsShownHead, ShowsAnswer}
+pub use Rattle.warg_transparency.specs.ShownTwice.{AreBeginningsShown, AreTwoLengths, IsBeginningCollision, IsBeginningFork, IsOneBeginning}
+pub use Rattle.warg_transparency.specs.ShownTwice.{IsShownBeginning, answer_inputs, head_inputs, inputs_of}
 -- the texts of proofs, and what texts are read as
 pub use Rattle.warg_crypto.specs.OutcomeResults.{ReturnsOr}
 pub use Rattle.warg_transparency.specs.Texts.{log_proof_of, log_proof_text, map_proof_of, map_proof_text}
