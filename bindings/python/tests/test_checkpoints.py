@@ -4,6 +4,7 @@ lets sign. The package `cryptography` and the program `openssl` sign."""
 import base64
 import dataclasses
 import json
+import os
 import pathlib
 import shutil
 import subprocess
@@ -44,6 +45,7 @@ OTHERS = [
     Checkpoint(MAP_ROOT, 8, LOG_ROOT, 2**32 + 5),
     Checkpoint(LOG_ROOT, 2**32 + 5, MAP_ROOT, 8),
 ]
+SCRIPT = pathlib.Path(__file__).resolve().parents[3] / "bin/weoldrin-sign"
 # What can't be read as a signature.
 UNREADABLE = ["", "ecdsa-p256", ":AAAA", "ecdsa-p256:!", "ecdsa-p256:AAA", "ecdsa-p256:AAAA\n", "é", "\ud800"]
 JSON = f'{{"logRoot":"{LOG_ROOT}","logLength":8,"mapRoot":"{MAP_ROOT}","timestamp":4294967301}}'
@@ -303,6 +305,26 @@ class Signed(unittest.TestCase):
         self.assertTrue(self._asked(IT, records.key_id(key), signature))
         for it in OTHERS:
             self.assertFalse(self._asked(it, records.key_id(key), signature))
+
+    @unittest.skipUnless(SCRIPT.is_file() and os.access(SCRIPT, os.X_OK), "there is no bin/weoldrin-sign here")
+    def test_by_the_script(self) -> None:
+        """`bin/weoldrin-sign` makes a key and signs, and prints what is read here."""
+
+        def said(*words: object) -> str:
+            return subprocess.run([str(SCRIPT), *map(str, words)], capture_output=True, text=True, check=True).stdout
+
+        with tempfile.TemporaryDirectory() as folder:
+            pem, body = pathlib.Path(folder) / "key.pem", pathlib.Path(folder) / "checkpoint.json"
+            body.write_text(json.dumps({"logLength": 8, "logRoot": LOG_ROOT, "mapRoot": MAP_ROOT}), encoding="ascii")
+            said("new", pem)
+            key, printed = said("key", pem).strip(), said("checkpoint", pem, body, IT.timestamp)
+        signed = SignedCheckpoint.from_json(printed)
+        self.assertEqual((signed.contents, signed.key_id), (IT, records.key_id(key)))
+        self.assertEqual(printed, f"{signed.to_json()}\n")
+        self._append(self.first, records.grant(LogKind.OPERATOR, key, "commit"))
+        self.assertTrue(self._asked(IT, signed.key_id, signed.signature))
+        for it in OTHERS:
+            self.assertFalse(self._asked(it, signed.key_id, signed.signature))
 
 
 def _openssl(*words: str, given: bytes = b"") -> bytes:
