@@ -6,6 +6,7 @@ import tempfile
 import time
 import unittest
 from typing import Any
+from unittest import mock
 
 from weoldrin import (
     Checkpoint,
@@ -19,6 +20,10 @@ from weoldrin import (
     verify_inclusion,
     verify_presence,
 )
+from weoldrin.registry.answers import Registry
+from weoldrin.registry.following import Follower
+from weoldrin.registry.packages import package
+from weoldrin.registry.trust import Trust
 
 from .served import (
     Client,
@@ -83,6 +88,7 @@ class Proofs(Served):
                 self.assertGreater(new["checkpoint"]["contents"]["logLength"], new["registryIndex"])
             seen.append(self._see(checkpoint_of(self.client, number + 5)))
         self._check_consistency(seen)
+        self._check_before(seen[-2], seen[-1], heads)
         self._check_inclusion(seen[-1])
         self._check_map(seen[-1], heads)
 
@@ -98,7 +104,7 @@ class Proofs(Served):
             self.assertEqual(signed(kept.json).contents, old)
             same = self.client.get(f"/v1/checkpoint/{old.log_length}", If_None_Match=kept.headers["etag"])
             self.assertEqual(same.status, 304)
-            if old != newest:
+            if old not in seen[-2:]:
                 for target in (f"consistency?from=0&to={old.log_length}", f"inclusion?leaf=0&length={old.log_length}",
                                f"map?log={OPERATOR}&length={old.log_length}"):
                     told = self.refused(self.client.get(f"/v1/proof/{target}"), 409, "NotNewest")
@@ -110,6 +116,41 @@ class Proofs(Served):
         self.assertEqual(self.client.get("/v1/proof/consistency?from=0").json["proof"], "")
         for target in ("inclusion", "consistency", "map", "map?log=x", "inclusion?leaf=x", "map?log=sha256:00"):
             self.refused(self.client.get(f"/v1/proof/{target}"), 400, "BadQuery")
+
+    def _check_before(self, before: Checkpoint, newest: Checkpoint, heads: dict[str, str]) -> None:
+        """Checks what is proved under the checkpoint before the newest one."""
+        length = before.log_length
+        self.assertEqual(length, newest.log_length - 1)
+        old = self.client.get("/v1/checkpoint/5").json["contents"]
+        for place, line in enumerate(self.client.get("/v1/leaves").body.decode().splitlines()[:length]):
+            answer = self.client.get(f"/v1/proof/inclusion?leaf={place}&length={length}&from=5").json
+            self.assertEqual(f"{answer['logId']} {answer['recordId']}", line)
+            self.assertEqual(self._see(answer["checkpoint"]), before)
+            ends = (length, before.log_root)
+            self.assertTrue(verify_inclusion(answer["logId"], answer["recordId"], place, *ends, answer["proof"]))
+            self.assertTrue(verify_consistency(5, old["logRoot"], *ends, answer["consistency"]))
+        answer = self.client.get(f"/v1/proof/consistency?from=5&to={length}").json
+        self.assertEqual(self._see(answer["checkpoint"]), before)
+        self.assertTrue(verify_consistency(5, old["logRoot"], length, before.log_root, answer["proof"]))
+        for name, head in heads.items():
+            its_id = log_id(LogKind.PACKAGE, name)
+            answer = self.client.get(f"/v1/proof/map?log={its_id}&length={length}").json
+            self.assertEqual(self._see(answer["checkpoint"]), before)
+            # The last record that came stands under the newest one alone.
+            self.assertEqual(answer["recordId"] == head, name != "a:log-x1")
+            self.assertTrue(verify_presence(its_id, answer["recordId"], before.map_root, answer["proof"]))
+        none = log_id("package", "a:none")
+        answer = self.client.get(f"/v1/proof/map?log={none}&length={length}").json
+        self.assertTrue(verify_absence(none, before.map_root, answer["proof"]))
+        for target in (f"inclusion?leaf={length}&length={length}", f"inclusion?leaf={2**63 - 1}&length={length}"):
+            self.refused(self.client.get(f"/v1/proof/{target}"), 404, "NoLeaf")
+        self.refused(self.client.get(f"/v1/proof/consistency?from=3&to={length}"), 404, "NoCheckpoint")
+        self.refused(self.client.get(f"/v1/proof/consistency?from=99&to={length}"), 404, "NoCheckpoint")
+        # It does not go on from the newest one, and there is nothing wrong with that.
+        for target in (f"consistency?from={length + 1}&to={length}",
+                       f"map?log={none}&length={length}&from={length + 1}"):
+            told = self.refused(self.client.get(f"/v1/proof/{target}"), 409, "NotNewest")
+            self.assertEqual(self._see(told["checkpoint"]), newest)
 
     def _check_inclusion(self, newest: Checkpoint) -> None:
         lines = self.client.get("/v1/leaves").body.decode().splitlines()
@@ -156,6 +197,41 @@ class Renewed(Served):
         log = operator_log(self.client)
         self.assertTrue(log.verify_checkpoint(found.contents, found.key_id, found.signature))
         self.assertEqual(self.client.get("/v1/checkpoint/1").json, first)
+        # It goes on to be proved under as it was signed the last time, also while the next one is signed anew.
+        head = self.client.get("/v1/operator/records").headers["etag"].strip('"')
+        other = self.client.get("/v1/checkpoint").json
+        entry = records.grant("operator", ALICE.public_key, "commit")
+        self.published(self.client.post("/v1/operator/record", operator_record(head, self.key, entry)))
+        last = checkpoint_of(self.client, 2)
+        until = time.monotonic() + 20
+        while checkpoint_of(self.client, 2) == last:
+            self.assertLess(time.monotonic(), until)
+            time.sleep(0.1)
+        answer = self.client.get(f"/v1/proof/map?log={OPERATOR}&length=1").json
+        self.assertEqual((answer["checkpoint"]["contents"]["logLength"], answer["recordId"]), (1, head))
+        self.assertGreaterEqual(answer["checkpoint"]["contents"]["timestamp"], other["contents"]["timestamp"])
+
+
+class Overtaken(Served):
+    """A client under whose checkpoint another one comes while it asks."""
+
+    def test_it_goes_on(self) -> None:
+        begin(self.client, self.key)
+        first = package_record(None, ALICE, records.init(ALICE.public_key))
+        head = self.published(self.client.post("/v1/package/a:b/record", first))["recordId"]
+        checkpoint_of(self.client, 2)
+        follower = Follower(Registry(f"http://127.0.0.1:{self.process.port}"), Trust())
+        newest = follower.follow()
+        self.assertEqual(newest.contents.log_length, 2)
+        self.published(self.client.post("/v1/package/a:b/record", package_record(head, ALICE, release("1.0.0"))))
+        checkpoint_of(self.client, 3)
+        with mock.patch.object(Follower, "follow", side_effect=AssertionError):
+            found = package(follower, "a:b")
+        self.assertEqual((found.checkpoint, found.seen.head, found.seen.place), (newest, head, 1))
+        # Beyond what is kept, it begins anew.
+        self.published(self.client.post("/v1/package/a:c/record", first))
+        checkpoint_of(self.client, 4)
+        self.assertEqual(package(follower, "a:b").checkpoint.contents.log_length, 4)
 
 
 class OneASecond(Served):

@@ -50,6 +50,13 @@ class Processes(unittest.TestCase):
         newest = [signed(checkpoint_of(it, 31)) for it in clients]
         self.assertEqual(*(it.contents.log_root for it in newest))
         self.assertEqual(len(clients[0].get("/v1/leaves").body.splitlines()), 31)
+        # Each proves under the one before the newest that it has shown, whichever has made them.
+        clients[0].post("/v1/package/a:b/record", package_record(head, ALICE, release("30.0.0")))
+        for it in clients:
+            checkpoint_of(it, 32)
+            shown = it.get("/v1/proof/inclusion?leaf=30&length=31&from=1").json
+            self.assertEqual(signed(shown["checkpoint"]).contents.log_length, 31)
+            self.assertEqual(shown["recordId"], head)
 
     def test_a_lock_that_is_held(self) -> None:
         _, client = self._process(settings="lock_seconds = 0.2\ncheckpoint_seconds = 0.1\n")

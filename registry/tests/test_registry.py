@@ -61,7 +61,10 @@ class Faults(unittest.TestCase):
         path.write_text('port = 7\nbody_seconds = 3\nhost = "x"\n', encoding="utf-8")
         self.assertEqual(from_file(path, port=8, key=None), Settings(port=8, body_seconds=3.0, host="x"))
         self.assertEqual(from_file(None), Settings())
-        for wrong in ("x", "none = 1", 'port = "7"', "port = 1.5", "threads = 0", "body_bytes = -1", "port = true"):
+        path.write_text("kept_checkpoints = 16", encoding="utf-8")
+        self.assertEqual(from_file(path).kept_checkpoints, 16)
+        for wrong in ("x", "none = 1", 'port = "7"', "port = 1.5", "threads = 0", "body_bytes = -1", "port = true",
+                      "kept_checkpoints = 0", "kept_checkpoints = 17"):
             path.write_text(wrong, encoding="utf-8")
             self.assertRaises(BadSettings, from_file, path)
         self.assertRaises(BadSettings, from_file, self.folder / "none.toml")

@@ -314,6 +314,7 @@ class Writers(InFile):
         self.assertEqual((self.storage.checkpoint(1), self.storage.newest()), ("one", "one anew"))
         self.storage.add_checkpoint("two", 2, "one anew")
         self.assertEqual((self.storage.checkpoint(2), self.storage.newest()), ("two", "two"))
+        self.assertEqual([self.storage.renewed(it) for it in range(4)], [None, "one anew", "two", None])
 
     def test_a_lock_that_is_held(self) -> None:
         new = NewRecord("sha256:1", "package", "a:b", None, 0, "sha256:2", 1, "k", b"e")

@@ -21,7 +21,7 @@ PATIENCE = 300
 PUBLISHING, STORAGE, STATES = "test_publishing.Publishing", "test_storage.Writers", "test_storage.States"
 READING, CONNECTIONS = "test_reading.Reading", "test_connections.Connections"
 PROOFS, KEYS, UNVERIFIED = "test_checkpoints.Proofs.test_all", "test_checkpoints.Keys", "test_unverified.Unverified"
-TREES = "test_trees.Trees"
+TREES, SEVERAL = "test_trees.Trees", "test_trees.Several"
 BEGINNING, FOUND = "test_beginning.Beginning", "test_installed.Found"
 
 # The file, what stands there, what is put there, and the test that sees it.
@@ -233,8 +233,8 @@ WRONG: dict[str, Wrong] = {
         f"{UNVERIFIED}.test_proofs"),
     "a head is not verified": ("checkpoints.py", "if not holds:", "if False:", f"{UNVERIFIED}.test_proofs"),
     "trees stay ahead of what is kept": (
-        "checkpoints.py", "            self._drop_trees()\n            self._paused_until",
-        "            self._paused_until", f"{UNVERIFIED}.test_one_that_can_not_be_kept"),
+        "checkpoints.py", "            self._ring.drop()\n            self._paused_until",
+        "            self._paused_until", f"{UNVERIFIED}.test_one_that_fails_on_the_way"),
     "what failed is tried at once": (
         "checkpoints.py", "time.monotonic() + _PAUSE", "time.monotonic()",
         f"{UNVERIFIED}.test_one_that_can_not_be_kept"),
@@ -246,43 +246,88 @@ WRONG: dict[str, Wrong] = {
         "checkpoints.py", "if before.length >= length:", "if True:",
         f"{UNVERIFIED}.test_another_process_with_fewer_leaves"),
     "the log goes on from any length": (
-        "checkpoints.py", "if first > newest.length or (first > 0 and text is None):", "if first > newest.length:",
+        "checkpoints.py", "if first > under.length or (first > 0 and text is None):", "if first > under.length:",
         PROOFS),
+    "another past is taken beside a checkpoint": (
+        "checkpoints.py", "if before is not None and self._ring.of(before.length):", "if False:",
+        f"{UNVERIFIED}.test_another_past"),
+    "an older checkpoint's key may not sign any more": (
+        "checkpoints.py", "if found.is_verified and may_sign else", "if found.is_verified else",
+        f"{UNVERIFIED}.test_a_key_that_may_not_any_more"),
+    "an older checkpoint's signature is not looked at": (
+        "checkpoints.py", "if found.is_verified and may_sign else", "if may_sign else",
+        f"{UNVERIFIED}.test_one_that_another_process_renews"),
+    "an older checkpoint's roots are not looked at": (
+        "checkpoints.py", "self._ring.accept(last, self._may_stand(last, found.trees))",
+        "self._ring.accept(last, self._is_signed(last.signed))",
+        f"{UNVERIFIED}.test_one_that_another_process_renews"),
+    "an older checkpoint is the first of its length": (
+        "checkpoints.py", "self._storage.renewed(length)", "self._storage.checkpoint(length)",
+        f"{UNVERIFIED}.test_one_that_another_process_renews"),
+    "the last checkpoint of a length is the first": (
+        "storage/sqlite.py", "SELECT renewed FROM checkpoints WHERE", "SELECT text FROM checkpoints WHERE",
+        f"{STORAGE}.test_checkpoints_are_added_in_order"),
+    "the last checkpoint of a length is the first, in PostgreSQL": (
+        "storage/postgres.py", "SELECT renewed FROM checkpoints WHERE", "SELECT text FROM checkpoints WHERE",
+        "test_postgres.WritersOnPostgres.test_checkpoints_are_added_in_order"),
+    "two checkpoints are always kept": (
+        "checkpoints.py", "Ring(storage, settings.kept_checkpoints)", "Ring(storage, 2)",
+        f"{UNVERIFIED}.test_how_many"),
+    "any number of checkpoints is kept": (
+        "settings.py", "if name in _MOST and", "if False and", "test_registry"),
     # Trees
     "leaves are read from the first on": (
-        "checkpoints.py", "self._storage.leaves(start, min(", "self._storage.leaves(0, min(",
+        "trees.py", "self._storage.leaves(start, min(", "self._storage.leaves(0, min(",
         f"{TREES}.test_they_go_on"),
     "more leaves are read than are wanted": (
-        "checkpoints.py", "min(_MANY, length - start)", "_MANY", f"{TREES}.test_they_go_on"),
+        "trees.py", "min(_MANY, length - start)", "_MANY", f"{TREES}.test_they_go_on"),
     "trees of more leaves are taken": (
-        "checkpoints.py", "len(self._trees) > length:", "False:", f"{TREES}.test_they_are_made_anew"),
+        "trees.py", "len(self._all[-1].trees) > length:", "False:", f"{TREES}.test_they_are_made_anew"),
     "trees are made anew each time": (
-        "checkpoints.py", "        if self._trees is None:\n            saved", "        if True:\n            saved",
+        "trees.py", "        if not self._all:\n", "        if True:\n",
         f"{TREES}.test_they_go_on"),
     "trees are made by a push for each leaf": (
-        "checkpoints.py", "        if self._trees is None:\n            saved",
-        "        self._trees = self._trees or RegistryTrees()\n        if False:\n            saved",
+        "trees.py", "            self._make(length)\n", "            self._all.append(Standing(RegistryTrees()))\n",
         f"{TREES}.test_they_are_made_at_once"),
     "trees are made of the last leaves that were read": (
-        "checkpoints.py", "saved.extend(saved_leaves(leaves))", "saved.__init__(saved_leaves(leaves))",
+        "trees.py", "saved.extend(saved_leaves(leaves))", "saved.__init__(saved_leaves(leaves))",
         f"{TREES}.test_they_are_made_at_once"),
     "the last leaves are read again and again": (
-        "checkpoints.py", "start += len(leaves)", "start += max(1, len(leaves) - 1)",
+        "trees.py", "start += len(leaves)", "start += max(1, len(leaves) - 1)",
         f"{TREES}.test_they_are_made_at_once"),
     "trees that are dropped stay open": (
-        "checkpoints.py", "            self._trees.close()\n", "            pass\n",
+        "trees.py", "            it.trees.close()\n", "            pass\n",
         f"{TREES}.test_they_are_made_anew"),
     "a leaf that is none is a bad argument": (
-        "checkpoints.py", "except BadArgument:", "except ZeroDivisionError:", f"{TREES}.test_other_leaves"),
+        "trees.py", "except BadArgument:", "except ZeroDivisionError:", f"{TREES}.test_other_leaves"),
+    "the newest trees go on": (
+        "trees.py", "pop(0 if self._all[-1].checkpoint else -1)", "pop(-1)", f"{SEVERAL}.test_the_oldest_go_on"),
+    "trees that are ahead are left": (
+        "trees.py", "pop(0 if self._all[-1].checkpoint else -1)", "pop(0)",
+        f"{SEVERAL}.test_trees_that_are_ahead"),
+    "a renewed checkpoint has other trees": (
+        "trees.py", "if len(self._all[-1].trees) < length:", "if True:", f"{SEVERAL}.test_one_that_is_renewed"),
+    "a renewed checkpoint is not kept": (
+        "trees.py", "if len(it.trees) == checkpoint.length:", "if it.checkpoint is None:",
+        f"{SEVERAL}.test_one_that_is_renewed"),
+    "all trees stand as the newest": (
+        "trees.py", "if len(it.trees) == checkpoint.length:", "if True:", f"{SEVERAL}.test_the_oldest_go_on"),
+    "some trees are missing": ("trees.py", "            it.result()\n", "            pass\n", f"{SEVERAL}.test_memory"),
     "trees stay open behind a registry": (
         "registry.py", "        self.checkpoints.close()\n", "", f"{TREES}.test_a_registry_that_stops"),
     "trees of another length are asked": (
-        "checkpoints.py", "if trees is None or len(trees) != newest.length:", "if trees is None:",
+        "checkpoints.py", "if found is None or len(found.trees) != under.length:", "if found is None:",
         f"{UNVERIFIED}.test_proofs"),
     # Requests
     "an older checkpoint is taken for the newest": (
-        "routes/proofs.py", "if length is not None and length != newest.length:", "if False:", PROOFS),
-    "a leaf behind the end is a failure": ("routes/proofs.py", "if leaf >= newest.length:", "if False:", PROOFS),
+        "routes/proofs.py", "checkpoints.kept(length)", "checkpoints.kept(length) or newest", PROOFS),
+    "the newest is taken for an older checkpoint": (
+        "routes/proofs.py", "found = checkpoints.kept(length)", "found = checkpoints.kept(length) and newest", PROOFS),
+    "an older checkpoint denies a newer one": (
+        "routes/proofs.py", "found.length < first <= newest.length", "False", PROOFS),
+    "a checkpoint that is none is only newer": (
+        "routes/proofs.py", "found.length < first <= newest.length", "found.length < first", PROOFS),
+    "a leaf behind the end is a failure": ("routes/proofs.py", "if leaf >= under.length:", "if False:", PROOFS),
     "a tag is not looked at": ("routes/words.py", "return any(it.strip()", "return False and any(it.strip()",
                                f"{READING}.test_tags"),
     "both forms have one tag": (

@@ -11,7 +11,7 @@ from typing import TypeVar
 
 from weoldrin import Error
 
-from .checkpoints import Checkpoints, Newest
+from .checkpoints import Checkpoints
 from .handles import Handles
 from .lines import tell, tell_error
 from .metrics import Metrics
@@ -20,6 +20,7 @@ from .settings import Settings
 from .signing import signer_in
 from .storage import Storage, StorageError
 from .storage.opening import opened
+from .trees import Kept
 
 T = TypeVar("T")
 
@@ -66,7 +67,7 @@ class Registry:
         """What a call that reads gives, made by a thread for such."""
         return await asyncio.get_running_loop().run_in_executor(self._readers, call, *arguments)
 
-    def publish(self, log: LogName, envelope: bytes) -> tuple[Published, Newest | None]:
+    def publish(self, log: LogName, envelope: bytes) -> tuple[Published, Kept | None]:
         """Appends a record, and gives a checkpoint that has it, where one could be made by then."""
         new = self.publisher.publish(log, envelope, self.checkpoints.now())
         self.metrics.records.labels(log.kind.name.lower()).inc()
@@ -85,7 +86,7 @@ class Registry:
         except (StorageError, Error) as error:
             tell(f"the state of {log.log_id} was not saved: {error}")
 
-    def _made(self) -> Newest | None:
+    def _made(self) -> Kept | None:
         """A checkpoint. The record stands, whether one can be made or not."""
         try:
             return self.checkpoints.make()

@@ -71,6 +71,13 @@ class Settings:
     """The time between two checkpoints, at least."""
     renew_seconds: float = 60.0
     """After which time the newest checkpoint is signed anew, where no record has come."""
+    kept_checkpoints: int = 2
+    """Under how many checkpoints there are proofs, 16 at most: the newest one, and those of lengths before it. Each
+    has trees of its own in memory."""
+
+
+# What some of them are at most.
+_MOST = {"kept_checkpoints": 16}
 
 
 def _checked(name: str, value: Any) -> Any:
@@ -84,6 +91,8 @@ def _checked(name: str, value: Any) -> Any:
         raise BadSettings(f"{name} is no {type(default).__name__}")
     if not isinstance(value, str) and not value > 0 and name != "port":
         raise BadSettings(f"{name} is not above 0")
+    if name in _MOST and value > _MOST[name]:
+        raise BadSettings(f"{name} is above {_MOST[name]}")
     return value
 
 

@@ -1,4 +1,4 @@
-"""Proofs under the newest checkpoint."""
+"""Proofs under the newest checkpoint, or under one of the few before it."""
 
 from __future__ import annotations
 
@@ -8,12 +8,13 @@ from http import HTTPStatus
 from starlette.requests import Request
 from starlette.responses import Response
 
-from ..checkpoints import Checkpoints, Newest
+from ..checkpoints import Checkpoints
 from ..problems import Problem, bad_request, not_found
+from ..trees import Kept
 from .words import checkpoint_json, is_id, json_answer, no_checkpoint, number, query, registry_of
 
 # What is proved under a checkpoint, as members of JSON.
-_Proved = Callable[[Checkpoints, Newest], dict[str, object]]
+_Proved = Callable[[Checkpoints, Kept], dict[str, object]]
 
 
 async def inclusion(request: Request) -> Response:
@@ -21,24 +22,20 @@ async def inclusion(request: Request) -> Response:
     words = query(request, "leaf", "length", "from")
     leaf = _wanted(words, "leaf")
 
-    def proved(checkpoints: Checkpoints, newest: Newest) -> dict[str, object]:
-        if leaf >= newest.length:
-            raise not_found("NoLeaf", f"the newest checkpoint has {newest.length} leaves")
-        found = checkpoints.inclusion(newest, leaf)
+    def proved(checkpoints: Checkpoints, under: Kept) -> dict[str, object]:
+        if leaf >= under.length:
+            raise not_found("NoLeaf", f"the checkpoint has {under.length} leaves")
+        found = checkpoints.inclusion(under, leaf)
         return {"leaf": leaf, "logId": found.log_id, "recordId": found.record_id, "proof": found.proof}
 
     return await _proof(request, number(words, "length"), number(words, "from"), proved)
 
 
 async def consistency(request: Request) -> Response:
-    """That the newest checkpoint goes on from one of fewer leaves."""
+    """That a checkpoint goes on from one of fewer leaves."""
     words = query(request, "from", "to")
     first = _wanted(words, "from")
-
-    def proved(checkpoints: Checkpoints, newest: Newest) -> dict[str, object]:
-        return {"from": first, "proof": _consistency(checkpoints, newest, first)}
-
-    return await _proof(request, number(words, "to"), None, proved)
+    return await _proof(request, number(words, "to"), first, lambda *_: {"from": first}, "proof")
 
 
 async def head(request: Request) -> Response:
@@ -48,8 +45,8 @@ async def head(request: Request) -> Response:
     if not is_id(log_id):
         raise bad_request("BadQuery", "log is missing, or no id of a log")
 
-    def proved(checkpoints: Checkpoints, newest: Newest) -> dict[str, object]:
-        found = checkpoints.head(newest, log_id)
+    def proved(checkpoints: Checkpoints, under: Kept) -> dict[str, object]:
+        found = checkpoints.head(under, log_id)
         return {"logId": log_id, "recordId": found.record_id, "proof": found.proof}
 
     return await _proof(request, number(words, "length"), number(words, "from"), proved)
@@ -63,28 +60,40 @@ def _wanted(words: dict[str, str], name: str) -> int:
     return found
 
 
-def _consistency(checkpoints: Checkpoints, newest: Newest, first: int) -> str:
-    proof = checkpoints.consistency(newest, first)
+def _meant(checkpoints: Checkpoints, newest: Kept, length: int | None, first: int | None) -> Kept:
+    """The checkpoint of a length, or the newest. Raises a `Problem` where none of that length is proved under."""
+    if length is None:
+        return newest
+    found = checkpoints.kept(length)
+    # One of fewer leaves than the asker has seen signed does not go on from these: the newest one does.
+    if found is None or (first is not None and found.length < first <= newest.length):
+        sentence = f"the newest checkpoint has the length {newest.length}"
+        raise Problem(HTTPStatus.CONFLICT, "NotNewest", sentence, checkpoint=checkpoint_json(newest.text))
+    return found
+
+
+def _consistency(checkpoints: Checkpoints, under: Kept, first: int) -> str:
+    proof = checkpoints.consistency(under, first)
     if proof is None:
         raise no_checkpoint(f" of length {first}")
     return proof
 
 
-async def _proof(request: Request, length: int | None, first: int | None, proved: _Proved) -> Response:
-    """What is proved under the newest checkpoint, which is the one of the length where that is given."""
+async def _proof(
+    request: Request, length: int | None, first: int | None, proved: _Proved, name: str = "consistency"
+) -> Response:
+    """What is proved under the newest checkpoint, or under that of a length, and that it goes on from one of fewer
+    leaves, by the name of that member."""
     registry = registry_of(request)
 
     def found() -> dict[str, object]:
         with registry.checkpoints.held() as newest:
             if newest is None:
                 raise no_checkpoint()
-            checkpoint = checkpoint_json(newest.text)
-            if length is not None and length != newest.length:
-                sentence = f"the newest checkpoint has the length {newest.length}"
-                raise Problem(HTTPStatus.CONFLICT, "NotNewest", sentence, checkpoint=checkpoint)
-            members = {"checkpoint": checkpoint, **proved(registry.checkpoints, newest)}
+            under = _meant(registry.checkpoints, newest, length, first)
+            members = {"checkpoint": checkpoint_json(under.text), **proved(registry.checkpoints, under)}
             if first is not None:
-                members["consistency"] = _consistency(registry.checkpoints, newest, first)
+                members[name] = _consistency(registry.checkpoints, under, first)
             return members
 
     return json_answer(await registry.read(found), 200, {"Cache-Control": "no-cache"})

@@ -124,6 +124,9 @@ class Storage(Protocol):
     def checkpoint(self, length: int) -> str | None:
         """The first checkpoint of a length."""
 
+    def renewed(self, length: int) -> str | None:
+        """The checkpoint of a length, as it was signed the last time."""
+
     def newest(self) -> str | None:
         """The newest checkpoint: of the greatest length, as it was signed the last time."""
 

@@ -128,6 +128,10 @@ class PostgresStorage:
         row = self._row("SELECT text FROM checkpoints WHERE length = %s", length)
         return str(row[0]) if row else None
 
+    def renewed(self, length: int) -> str | None:
+        row = self._row("SELECT renewed FROM checkpoints WHERE length = %s", length)
+        return str(row[0]) if row else None
+
     def newest(self) -> str | None:
         row = self._row("SELECT renewed FROM checkpoints ORDER BY length DESC LIMIT 1")
         return str(row[0]) if row else None

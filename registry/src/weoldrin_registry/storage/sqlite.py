@@ -130,6 +130,11 @@ class SqliteStorage:
             row = file.execute("SELECT text FROM checkpoints WHERE length = ?", (length,)).fetchone()
         return str(row[0]) if row else None
 
+    def renewed(self, length: int) -> str | None:
+        with self._reading() as file:
+            row = file.execute("SELECT renewed FROM checkpoints WHERE length = ?", (length,)).fetchone()
+        return str(row[0]) if row else None
+
     def newest(self) -> str | None:
         with self._reading() as file:
             return _newest(file)
