@@ -15,6 +15,7 @@ pub mod Places
 pub mod Appending
 pub mod RunLemmas
 pub mod ProofOutcomes
+pub mod CheckpointTextLemmas
 pub mod ForkLemmas
 pub mod ContradictionLemmas
 pub mod ByStatus

@@ -26,7 +26,7 @@ errors_as Takes May Bad IsBad f may bad (inl (is, takes)) = inl (is, may takes)
 errors_as Takes May Bad IsBad f may bad (inr (inl lacks)) = inr (inl lacks)
 errors_as Takes May Bad IsBad f may bad (inr (inr (is, b))) = inr (inr (is, bad b))
 
-not_memory : OutOfMemory ≡ BadArgument → ⊥
+pub not_memory : OutOfMemory ≡ BadArgument → ⊥
 not_memory is = cc
 
 -- an error with the status of a bad argument is one

@@ -23,6 +23,7 @@ pub mod ProofAnswers
 pub mod ProofFaults
 pub mod LogNames
 pub mod CheckpointAnswers
+pub mod CheckpointTexts
 pub mod ForkAnswers
 pub mod ContradictionAnswers
 pub mod Registries

@@ -43,6 +43,7 @@
 
 mod appending;
 mod chains;
+mod checkpoint_texts;
 mod checkpoints;
 mod comparing;
 mod contradictions;

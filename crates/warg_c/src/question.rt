@@ -117,8 +117,8 @@ fn key_text(alloc: Global, key: &PublicKey) -> Result<String, AllocError>
     Ok(text)
 }
 
-// The text of a signature, which reads back as that signature.
-fn signature_text(alloc: Global, signature: &Signature) -> Result<String, AllocError>
+/// The text of a signature, which reads back as that signature.
+pub(crate) fn signature_text(alloc: Global, signature: &Signature) -> Result<String, AllocError>
     ensures text { IfOk result (λ text. string_bytes text ≡ named_bytes_text signature.now) }
     ensures back { IfOk result (λ text. signature_of (string_bytes text) ≡ Ok signature.now) }
     ensures utf8 { IfOk result (λ text. IsUtf8 (string_bytes text)) }

@@ -26,8 +26,8 @@ use warg_operator_log::LogState;
 use warg_p256::P256Verifier;
 use warg_registry::{Checkpoint, TimestampedCheckpoint};
 
-// The checkpoint that a call says.
-fn checkpoint_in(
+/// The checkpoint that a call says.
+pub(crate) fn checkpoint_in(
     log_length: u64,
     log_root: &[u8],
     map_root: &[u8],

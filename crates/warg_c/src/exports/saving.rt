@@ -113,13 +113,14 @@ fn fault_text(fault: JsonTextError) -> &'static str
     }
 }
 
-// Says why a text is no saved state, where there is room for it.
-fn refuse_saved(error: JsonTextError, text: &mut [u8], used: &mut usize) -> CallError
+/// Says why a text is no JSON of what is read, where there is room for it.
+pub(crate) fn refuse_saved(error: JsonTextError, text: &mut [u8], used: &mut usize) -> CallError
     ensures call_error { (result ≡ OutOfMemory) ⊎ ((result ≡ BadArgument) ×
         (error ≢ json.OutOfMemory) × IsGiven (fault_text error) used.new text.new) }
     ensures behind { used.old ≡ 0 → drop used.new text.new ≡ drop used.new text.old }
     ensures within { used.old ≡ 0 → used.new ≤ length text.new }
     ensures quiet { used.old ≡ 0 → result ≢ BadArgument → used.new ≡ 0 }
+    ensures buffer { result ≢ BadArgument → text.new ≡ text.old }
 {
     if let JsonTextError::OutOfMemory | JsonTextError::Value(JsonError::OutOfMemory) = error {
         return CallError::OutOfMemory;
