@@ -23,8 +23,8 @@ OF_ARM = (
 # Debian's compiler of Rust for this machine, and Rust's own library for that one.
 OF_RUST = "rustc:amd64 libstd-rust-1.63:amd64 libllvm14:amd64 libstd-rust-dev".split()
 # The tests that call the library. Those of files, processes and printed texts are told by x86-64, and by Go's.
-OF_CRATE = "checkpoints comparisons contradictions log_ids logs p256 p256_rows proofs signed times".split()
-OF_CRATE += "registry_memory registry_reference registry_rows registry_trees".split()
+OF_CRATE = "checkpoint_texts checkpoints comparisons contradictions log_ids logs p256 p256_rows proofs signed".split()
+OF_CRATE += "times registry_memory registry_reference registry_rows registry_trees".split()
 OF_PACKAGE = "checkpoints comparisons contradictions log_ids logs proofs registry_rows transparency".split()
 
 

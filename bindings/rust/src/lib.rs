@@ -54,7 +54,7 @@ pub mod records;
 mod registry_trees;
 mod time;
 
-pub use checkpoint::Checkpoint;
+pub use checkpoint::{Checkpoint, SignedCheckpoint};
 pub use error::{Error, Reason};
 pub use kind::{LogKind, Operator, OperatorPermission, Package, PackagePermission, Permission, UnknownPermission};
 pub use log::{Comparison, Last, Link, Log, Record};

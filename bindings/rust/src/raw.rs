@@ -111,6 +111,18 @@ pub(crate) struct LogHead {
     pub proof_len: usize,
 }
 
+/// A `struct warg_signed_checkpoint`.
+#[repr(C)]
+#[derive(Default)]
+pub(crate) struct SignedCheckpoint {
+    pub log_length: u64,
+    pub timestamp: u64,
+    pub log_root_len: usize,
+    pub map_root_len: usize,
+    pub key_id_len: usize,
+    pub signature_len: usize,
+}
+
 extern "C" {
     pub(crate) fn warg_open(log: *mut Log, kind: u32) -> u32;
     pub(crate) fn warg_close(log: *mut Log);
@@ -462,6 +474,29 @@ extern "C" {
         key_id_len: usize,
         signature: *const u8,
         signature_len: usize,
+    ) -> u32;
+    pub(crate) fn warg_checkpoint_text(
+        log_length: u64,
+        log_root: *const u8,
+        log_root_len: usize,
+        map_root: *const u8,
+        map_root_len: usize,
+        timestamp: u64,
+        key_id: *const u8,
+        key_id_len: usize,
+        signature: *const u8,
+        signature_len: usize,
+        text: *mut u8,
+        text_len: usize,
+        used: *mut usize,
+    ) -> u32;
+    pub(crate) fn warg_read_checkpoint(
+        json: *const u8,
+        json_len: usize,
+        text: *mut u8,
+        text_len: usize,
+        used: *mut usize,
+        checkpoint: *mut SignedCheckpoint,
     ) -> u32;
     pub(crate) fn warg_version(text: *mut u8, text_len: usize, used: *mut usize) -> u32;
 }
