@@ -244,6 +244,19 @@ struct warg_log_head {
     size_t proof_len;
 };
 
+/* A signed checkpoint. Its texts stand one behind the other: the root of the registry's log, the root of its map, the id of the key that is said
+ * to have signed, and the signature. */
+struct warg_signed_checkpoint {
+    /* The length of the registry's log in leaves. */
+    uint64_t log_length;
+    /* The time in whole seconds since 1970. */
+    uint64_t timestamp;
+    size_t log_root_len;
+    size_t map_root_len;
+    size_t key_id_len;
+    size_t signature_len;
+};
+
 /* Opening and closing. */
 
 /* Begins a log of no records, of one of `enum warg_kind`. A log that was open is closed first.
@@ -591,6 +604,22 @@ uint32_t warg_checkpoint_message(uint64_t log_length, const uint8_t *log_root, s
 uint32_t warg_verify_checkpoint(struct warg_log *log, uint64_t log_length, const uint8_t *log_root, size_t log_root_len,
                                 const uint8_t *map_root, size_t map_root_len, uint64_t timestamp, const uint8_t *key_id,
                                 size_t key_id_len, const uint8_t *signature, size_t signature_len);
+
+/* Signed checkpoints of a registry as texts of JSON, as a registry answers them: `contents` with `logRoot`, `logLength`, `mapRoot` and
+ * `timestamp`, and beside it `keyId` and `signature`. */
+
+/* The JSON text of a signed checkpoint. `key_id` and `signature` are the texts that stand beside the checkpoint; nothing is verified.
+ *   WARG_BAD_ARGUMENT: the text of a root is none of a hash, the key id is no UTF-8, or the signature's text can't be read; nothing is told of it.
+ *   WARG_OUT_OF_MEMORY: nothing is said; the roots are hashes, and the key id is UTF-8. */
+uint32_t warg_checkpoint_text(uint64_t log_length, const uint8_t *log_root, size_t log_root_len, const uint8_t *map_root,
+                              size_t map_root_len, uint64_t timestamp, const uint8_t *key_id, size_t key_id_len,
+                              const uint8_t *signature, size_t signature_len, uint8_t *text, size_t text_len, size_t *used);
+
+/* Reads the JSON text of a signed checkpoint. What else it has is passed over; nothing is verified. What was read may be given to
+ * `warg_verify_checkpoint`, and a text that `warg_checkpoint_text` wrote is read as what it was written of.
+ *   WARG_BAD_ARGUMENT: the text is no signed checkpoint (NotJson, WrongType, Missing, BadText). */
+uint32_t warg_read_checkpoint(const uint8_t *json, size_t json_len, uint8_t *text, size_t text_len, size_t *used,
+                              struct warg_signed_checkpoint *checkpoint);
 
 /* The names of statuses. */
 
