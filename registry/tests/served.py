@@ -122,9 +122,9 @@ class Process:
         """The process's number."""
         return self._process.pid
 
-    def client(self, seconds: float = 60) -> Client:
+    def client(self, seconds: float = 60, is_kept: bool = True) -> Client:
         """A connection to it."""
-        return Client(self.port, seconds)
+        return Client(self.port, seconds, is_kept)
 
     def kill(self) -> None:
         """Kills it."""

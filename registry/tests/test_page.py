@@ -47,7 +47,8 @@ class OnServer(PageTests):
         # What is signed anew would be another checkpoint than the one that was asked for.
         cls.process = Process(cls.folder, settings="checkpoint_seconds = 0.1\nrenew_seconds = 3600\n")
         cls.addClassCleanup(cls.process.stop)
-        cls.client = cls.process.client()
+        # The server ends a connection on which nothing is asked while the browser is slow.
+        cls.client = cls.process.client(is_kept=False)
         cls.addClassCleanup(cls.client.close)
         begin(cls.client, key)
         for name, count in ((OTHER, 2), (NAME, RECORDS)):
