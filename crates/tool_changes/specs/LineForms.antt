@@ -79,6 +79,18 @@ fork_leaf = a_tag (codes "verdict") (codes "fork") (codes "fork") ∷ []
 abbrev pub no_leaf : List PartView
 no_leaf = a_tag (codes "verdict") (codes "not") (codes "not shown") ∷ a_word (codes "shown") ∷ []
 
+abbrev pub two_heads : List PartView
+two_heads = a_tag (codes "verdict") (codes "two") (codes "two") ∷ []
+
+abbrev pub one_and_none : List PartView
+one_and_none = a_tag (codes "verdict") (codes "one") (codes "one and none") ∷ a_word (codes "and") ∷ a_word (codes "none") ∷ []
+
+abbrev pub two_logs : List PartView
+two_logs = a_tag (codes "verdict") (codes "collision") (codes "collision") ∷ []
+
+abbrev pub two_lengths : List PartView
+two_lengths = a_tag (codes "verdict") (codes "two") (codes "two lengths") ∷ a_word (codes "lengths") ∷ []
+
 abbrev pub of_old : List PartView
 of_old = a_tag (codes "side") (codes "old:") (codes "old") ∷ a_tag (codes "verdict") (codes "refused") (codes "refused") ∷ a_number (codes "record") ∷ a_text (codes "offence") ∷ []
 
@@ -145,7 +157,8 @@ record_forms =
     ∷ record {
       command = codes "compare";
       forms = same_empty ∷ same ∷ goes_on ∷ rolled_back ∷ fork ∷ old_record ∷ bare_old_record ∷ new_record ∷ bare_new_record ∷
-          collision ∷ of_old ∷ of_new ∷ same_length ∷ fork_length ∷ not_shown_lengths ∷ same_leaf ∷ fork_leaf ∷ no_leaf ∷ [];
+          collision ∷ of_old ∷ of_new ∷ same_length ∷ fork_length ∷ not_shown_lengths ∷ same_leaf ∷ fork_leaf ∷ no_leaf ∷
+          two_heads ∷ one_and_none ∷ two_logs ∷ two_lengths ∷ [];
     }
     ∷ []
 

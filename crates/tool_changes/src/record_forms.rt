@@ -64,6 +64,29 @@ const NO_LEAF: Form = Form {
     ],
 };
 
+const TWO_HEADS: Form = Form {
+    parts: &[Part::Tag("verdict", "two", "two")],
+};
+
+const ONE_AND_NONE: Form = Form {
+    parts: &[
+        Part::Tag("verdict", "one", "one and none"),
+        Part::Word("and"),
+        Part::Word("none"),
+    ],
+};
+
+const TWO_LOGS: Form = Form {
+    parts: &[Part::Tag("verdict", "collision", "collision")],
+};
+
+const TWO_LENGTHS: Form = Form {
+    parts: &[
+        Part::Tag("verdict", "two", "two lengths"),
+        Part::Word("lengths"),
+    ],
+};
+
 const OF_OLD: Form = Form {
     parts: &[
         Part::Tag("side", "old:", "old"),
@@ -240,6 +263,10 @@ static RECORD_FORMS: [CommandForms; 3] = [
             SAME_LEAF,
             FORK_LEAF,
             NO_LEAF,
+            TWO_HEADS,
+            ONE_AND_NONE,
+            TWO_LOGS,
+            TWO_LENGTHS,
         ],
     },
 ];

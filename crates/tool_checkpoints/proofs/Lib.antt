@@ -5,3 +5,4 @@ mod CheckpointLemmas
 mod SignedLemmas
 pub mod ProofTextLemmas
 mod ViewLemmas
+mod TwiceLemmas

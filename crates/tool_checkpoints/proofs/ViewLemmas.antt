@@ -74,12 +74,12 @@ leaves_compared place old new before after case printed a b same fork not text =
 
 -- ---- answers by leaves that are read
 
-words_map : {A : Type 0} (Says : A → Type 0) (P Q : A → OutputData → Type 0) (printed : OutputData) → ((it : A) → P it printed → Q it printed)
+pub words_map : {A : Type 0} (Says : A → Type 0) (P Q : A → OutputData → Type 0) (printed : OutputData) → ((it : A) → P it printed → Q it printed)
     → IsByWords Says P printed → IsByWords Says Q printed
 words_map Says P Q printed f (unsaid none) = unsaid none
 words_map Says P Q printed f (by_value value says h) = by_value value says (f value h)
 
-file_map : {A : Type 0} (files : Option Files) (path : List ℕ) (Says : List ℕ → A → Type 0) (P Q : A → OutputData → Type 0) (printed : OutputData)
+pub file_map : {A : Type 0} (files : Option Files) (path : List ℕ) (Says : List ℕ → A → Type 0) (P Q : A → OutputData → Type 0) (printed : OutputData)
     → ((it : A) → P it printed → Q it printed) → IsByFile files path Says P printed → IsByFile files path Says Q printed
 file_map files path Says P Q printed f (unread h) = unread h
 file_map files path Says P Q printed f (read bytes held h) = read bytes held (words_map (Says bytes) P Q printed f h)

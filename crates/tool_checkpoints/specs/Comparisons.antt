@@ -13,6 +13,7 @@ use Rattle.warg_audit.specs.Files.OutputData.{OutputData}
 use Rattle.warg_audit.specs.Files.Texts.{no, yes}
 use Rattle.tool_checkpoints.specs.CheckpointAnswers.{IsSigned, Signed}
 use Rattle.tool_checkpoints.specs.Proofs.{IsLeafOf, IsLogProof}
+use Rattle.tool_checkpoints.specs.ShownTwice.{IsBeginningsAnswer, IsHeadsAnswer}
 use Rattle.tool_checkpoints.specs.Words.{IsByFile, IsByWords, IsIn, IsNumber}
 use Rattle.tool_checkpoints.specs.declared.compare.ReadLeaf.{ReadLeaf}
 use Rattle.tool_words.specs.declared.views.ShownIds.{ShownIds}
@@ -106,3 +107,5 @@ module _ (files : Option Files) where
   abbrev pub IsViewsAnswer : Views → OutputData → Type 0
   IsViewsAnswer (views.Checkpoints old new proof) printed = IsCheckpointsAnswer old.now new.now proof.now printed
   IsViewsAnswer (views.Leaves place old new) printed = IsLeavesAnswer place.now old new printed
+  IsViewsAnswer (views.Heads checkpoint log_id one other) printed = IsHeadsAnswer files checkpoint.now log_id.now one other printed
+  IsViewsAnswer (views.Beginnings one other new) printed = IsBeginningsAnswer files one other new.now printed

@@ -2,6 +2,7 @@ pub mod Words
 pub mod Proofs
 pub mod CheckpointAnswers
 pub mod Comparisons
+pub mod ShownTwice
 pub mod RegistryLeaves
 pub mod ProofTexts
 pub mod LeafTexts

@@ -9,6 +9,7 @@ ghost use Rattle.tool_checkpoints.specs.Proofs.{IsLogProof};
 ghost use Rattle.tool_checkpoints.specs.Words.{IsByFile};
 
 use crate::checkpoint::read_signed;
+use crate::contradictions::{beginnings_answer, heads_answer};
 use crate::read_words::{leaf_of, number_of, read_log_proof};
 use std::alloc::{AllocError, Global};
 use tool_words::{ShownIds, Views};
@@ -226,5 +227,12 @@ pub fn compare_answer<S: Store>(
     match views {
         Views::Checkpoints { old, new, proof } => checkpoints_answer(alloc, old, new, proof, store),
         Views::Leaves { place, old, new } => leaves_answer(alloc, place, old, new, store),
+        Views::Heads {
+            checkpoint,
+            log_id,
+            one,
+            other,
+        } => heads_answer(alloc, checkpoint, log_id, one, other, store),
+        Views::Beginnings { one, other, new } => beginnings_answer(alloc, one, other, new, store),
     }
 }

@@ -4,6 +4,7 @@
 
 mod checkpoint;
 mod compare;
+mod contradictions;
 mod hex_line;
 mod leaf;
 mod leaves;

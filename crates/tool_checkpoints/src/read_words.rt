@@ -67,8 +67,8 @@ pub(crate) fn log_id_of(alloc: Global, word: &str) -> Result<LogId, CommandError
     value_of::<LogId>(alloc, word, "id of a log")
 }
 
-// The id of a record that a word says.
-fn record_id_of(alloc: Global, word: &str) -> Result<RecordId, CommandError>
+/// The id of a record that a word says.
+pub(crate) fn record_id_of(alloc: Global, word: &str) -> Result<RecordId, CommandError>
     ensures ok { IfOk result (IsRecordWord word.now) }
     ensures err { IfErr result (IfOutput (IsUnsaid (IsRecordWord word.now))) }
 {

@@ -5,6 +5,10 @@ use Rattle.hex.specs.Hex.{encode_lower}
 use Rattle.warg_registry.specs.PrefixEncodings.{log_leaf_encoding_of}
 use Rattle.warg_registry.specs.declared.checkpoint.Checkpoint.{Checkpoint}
 use Rattle.warg_registry.specs.declared.leaf.LogLeaf.{LogLeaf}
+use Rattle.warg_transparency.specs.declared.contradictions.BeginningComparison.{BeginningComparison}
+use Rattle.warg_transparency.specs.declared.contradictions.BeginningComparison.TheVariants as beginnings
+use Rattle.warg_transparency.specs.declared.contradictions.HeadComparison.{HeadComparison}
+use Rattle.warg_transparency.specs.declared.contradictions.HeadComparison.TheVariants as heads
 use Rattle.warg_transparency.specs.declared.forks.CheckpointComparison.{CheckpointComparison}
 use Rattle.warg_transparency.specs.declared.forks.CheckpointComparison.TheVariants as checkpoints
 use Rattle.warg_transparency.specs.declared.forks.LeafComparison.{LeafComparison}
@@ -14,7 +18,10 @@ use Rattle.warg_audit.specs.Files.OutputData.{OutputData}
 use Rattle.warg_audit.specs.Files.Texts.{line, yes}
 use Rattle.tool_checkpoints.specs.Comparisons.{AreCompared, IsCheckpointsAnswer, IsComparison, IsLeavesAnswer, IsViewsAnswer, checkpoint_text, leaf_text}
 use Rattle.tool_checkpoints.specs.LeafTexts.{IsLeafAnswer, IsLeafLine}
+use Rattle.tool_checkpoints.specs.ShownTwice.{IsBeginningsAnswer, IsHeadsAnswer, beginning_text, head_text}
 use Rattle.tool_words.specs.declared.statement.LeafIds.{LeafIds}
+use Rattle.tool_words.specs.declared.views.BeginningFiles.{BeginningFiles}
+use Rattle.tool_words.specs.declared.views.HeadWords.{HeadWords}
 use Rattle.tool_words.specs.declared.views.ShownIds.{ShownIds}
 use Rattle.tool_words.specs.declared.views.Views.{Views}
 use Rattle.tool_words.specs.declared.views.Views.TheVariants as views
@@ -63,6 +70,19 @@ leaf_one leaves.Same = plain_line (codes "same") refl
 leaf_one leaves.Fork = plain_line (codes "fork") refl
 leaf_one leaves.NotShown = plain_line (codes "not shown") refl
 
+head_one : (case : HeadComparison) → IsOneLine (head_text case).text
+head_one heads.Same = plain_line (codes "same") refl
+head_one heads.Two = plain_line (codes "two") refl
+head_one heads.OneAndNone = plain_line (codes "one and none") refl
+head_one heads.NotShown = plain_line (codes "not shown") refl
+
+beginning_one : (case : BeginningComparison) → IsOneLine (beginning_text case).text
+beginning_one beginnings.Same = plain_line (codes "same") refl
+beginning_one beginnings.Fork = plain_line (codes "fork") refl
+beginning_one beginnings.Collision = plain_line (codes "collision") refl
+beginning_one beginnings.TwoLengths = plain_line (codes "two lengths") refl
+beginning_one beginnings.NotShown = plain_line (codes "not shown") refl
+
 module _ (files : Option Files) where
   comparison_clean : (proof : List ℕ) (old new : Checkpoint) (printed : OutputData) → IsComparison files proof old new printed → IsClean printed
   comparison_clean proof old new printed (inl h) = by_file_clean files proof printed h.1 (λ hashes. compared_clean old new hashes printed)
@@ -85,7 +105,30 @@ module _ (files : Option Files) where
       by_file_clean files new.proof.now printed by_view (λ proof is.
       clean_line printed (leaf_text is.case) is.text (leaf_one is.case))))))))
 
+  heads_said : (checkpoint log_id : List ℕ) (one other : HeadWords) (printed : OutputData)
+      → IsHeadsAnswer files checkpoint log_id one other printed → IsClean printed
+  heads_said checkpoint log_id one other printed h =
+      words_clean printed h (λ log said by_log.
+      by_file_clean files checkpoint printed by_log (λ signed by_view.
+      words_clean printed by_view (λ head said by_head.
+      by_file_clean files one.proof.now printed by_head (λ proof by_one.
+      words_clean printed by_one (λ head said by_head.
+      by_file_clean files other.proof.now printed by_head (λ proof is.
+      clean_line printed (head_text is.case) is.text (head_one is.case)))))))
+
+  beginnings_said : (one other : BeginningFiles) (new : List ℕ) (printed : OutputData)
+      → IsBeginningsAnswer files one other new printed → IsClean printed
+  beginnings_said one other new printed h =
+      by_file_clean files one.checkpoint.now printed h (λ signed by_view.
+      by_file_clean files one.proof.now printed by_view (λ proof by_one.
+      by_file_clean files other.checkpoint.now printed by_one (λ signed by_view.
+      by_file_clean files other.proof.now printed by_view (λ proof by_both.
+      by_file_clean files new printed by_both (λ newer is.
+      clean_line printed (beginning_text is.case) is.text (beginning_one is.case))))))
+
   -- what two views of a registry show of one another
   pub views_clean : (it : Views) (printed : OutputData) → IsViewsAnswer files it printed → IsClean printed
   views_clean (views.Checkpoints old new proof) printed h = checkpoints_said old.now new.now proof.now printed h
   views_clean (views.Leaves place old new) printed h = leaves_said place.now old new printed h
+  views_clean (views.Heads checkpoint log_id one other) printed h = heads_said checkpoint.now log_id.now one other printed h
+  views_clean (views.Beginnings one other new) printed h = beginnings_said one other new.now printed h

@@ -70,6 +70,8 @@ abbrev pub comparisons : List (List ℕ × Comparing)
 comparisons =
     (codes "checkpoints", comparing.Checkpoints) ∷
     (codes "leaves", comparing.Leaves) ∷
+    (codes "heads", comparing.Heads) ∷
+    (codes "beginnings", comparing.Beginnings) ∷
     []
 
 -- the command of a comparison: that of two logs, where no other is named
@@ -130,6 +132,8 @@ forms (command.Verify verifying.Head) = File ∷ Word ∷ Word ∷ File ∷ []
 forms (command.Verify verifying.Absence) = File ∷ Word ∷ File ∷ []
 forms (command.Compare comparing.Checkpoints) = File ∷ File ∷ Input ∷ []
 forms (command.Compare comparing.Leaves) = Word ∷ File ∷ Word ∷ Word ∷ File ∷ File ∷ Word ∷ Word ∷ File ∷ []
+forms (command.Compare comparing.Heads) = File ∷ Word ∷ Word ∷ File ∷ Word ∷ File ∷ []
+forms (command.Compare comparing.Beginnings) = File ∷ File ∷ File ∷ File ∷ File ∷ []
 
 -- whether a place has to be filled
 abbrev pub is_needed : Form → Bool

@@ -30,6 +30,8 @@ use Rattle.tool_words.specs.declared.task.Signer.{Signer}
 use Rattle.tool_words.specs.declared.task.Signer.TheVariants as signer
 use Rattle.tool_words.specs.declared.task.Task.{Task}
 use Rattle.tool_words.specs.declared.task.Task.TheVariants as task
+use Rattle.tool_words.specs.declared.views.BeginningFiles.{BeginningFiles}
+use Rattle.tool_words.specs.declared.views.HeadWords.{HeadWords}
 use Rattle.tool_words.specs.declared.views.ShownIds.{ShownIds}
 use Rattle.tool_words.specs.declared.views.Views.{Views}
 use Rattle.tool_words.specs.declared.views.Views.TheVariants as views
@@ -67,6 +69,16 @@ pub record AreShownIds (i : ℕ) (places : List (List ℕ)) (it : ShownIds) : Ty
   pub log_id : it.leaf.log_id.now ≡ place (i + 1) places
   pub record_id : it.leaf.record_id.now ≡ place (i + 2) places
   pub proof : it.proof.now ≡ place (i + 3) places
+
+-- the answer about a log's head, by the two words from a place on
+pub record AreHeadWords (i : ℕ) (places : List (List ℕ)) (it : HeadWords) : Type 0 where
+  pub record_id : it.record_id.now ≡ place i places
+  pub proof : it.proof.now ≡ place (i + 1) places
+
+-- the older checkpoint, by the two words from a place on
+pub record AreBeginningFiles (i : ℕ) (places : List (List ℕ)) (it : BeginningFiles) : Type 0 where
+  pub checkpoint : it.checkpoint.now ≡ place i places
+  pub proof : it.proof.now ≡ place (i + 1) places
 
 module _ (called : Command) (places : List (List ℕ)) (given : List (List ℕ × List ℕ)) where
   -- the question on logs of one kind
@@ -122,6 +134,11 @@ module _ (called : Command) (places : List (List ℕ)) (given : List (List ℕ �
       (called ≡ command.Compare comparing.Checkpoints) × (old.now ≡ place 0 places) × (new.now ≡ place 1 places) × (proof.now ≡ place 2 places)
   AreViews (views.Leaves at old new) =
       (called ≡ command.Compare comparing.Leaves) × (at.now ≡ place 0 places) × AreShownIds 1 places old × AreShownIds 5 places new
+  AreViews (views.Heads checkpoint log_id one other) =
+      (called ≡ command.Compare comparing.Heads) × (checkpoint.now ≡ place 0 places) × (log_id.now ≡ place 1 places)
+      × AreHeadWords 2 places one × AreHeadWords 4 places other
+  AreViews (views.Beginnings one other new) =
+      (called ≡ command.Compare comparing.Beginnings) × AreBeginningFiles 0 places one × AreBeginningFiles 2 places other × (new.now ≡ place 4 places)
 
   -- what is asked of a checkpoint
   abbrev pub IsCheckpointQuery : CheckpointQuery → Type 0

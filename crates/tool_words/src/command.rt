@@ -52,6 +52,8 @@ pub(crate) enum Verifying {
 pub(crate) enum Comparing {
     Checkpoints,
     Leaves,
+    Heads,
+    Beginnings,
 }
 
 /// A command.
@@ -135,6 +137,8 @@ fn comparing_of(name: &str) -> Option<Comparing>
     match name {
         "checkpoints" => Some(Comparing::Checkpoints),
         "leaves" => Some(Comparing::Leaves),
+        "heads" => Some(Comparing::Heads),
+        "beginnings" => Some(Comparing::Beginnings),
         _ => None,
     }
 }
@@ -186,6 +190,8 @@ impl Command {
             Command::Verify(Verifying::Head) => 4,
             Command::Compare(Comparing::Checkpoints) => 2,
             Command::Compare(Comparing::Leaves) => 9,
+            Command::Compare(Comparing::Heads) => 6,
+            Command::Compare(Comparing::Beginnings) => 5,
         }
     }
 
@@ -213,6 +219,8 @@ impl Command {
             Command::Verify(Verifying::Head) => 4,
             Command::Compare(Comparing::Checkpoints) => 3,
             Command::Compare(Comparing::Leaves) => 9,
+            Command::Compare(Comparing::Heads) => 6,
+            Command::Compare(Comparing::Beginnings) => 5,
         }
     }
 

@@ -278,6 +278,8 @@ impl<'a> Parts<'a> {
                 old: self.shown(1),
                 new: self.shown(5),
             },
+            Comparing::Heads => self.heads(),
+            Comparing::Beginnings => self.beginnings(),
         }
     }
 

@@ -271,4 +271,69 @@ inclusion.",
         ],
         choices: &[JSON, LIMIT],
     },
+    Row {
+        name: "heads",
+        about: "Says whether two proofs show one last record of a log",
+        example: "Example: weoldrin compare heads signed.json sha256:0a1b.. sha256:2c3d.. one.txt none two.txt
+
+The checkpoint is as those of `compare checkpoints`. In place of a record's id, the
+word none says that the proof shows that the log has no record.",
+        words: &[
+            Word {
+                name: "CHECKPOINT",
+                form: Form::Required,
+                help: "The file of the signed checkpoint's JSON",
+            },
+            LOG_ID,
+            Word {
+                name: "RECORD_ID",
+                form: Form::Required,
+                help: "The id of the log's last record, or none",
+            },
+            Word {
+                name: "PROOF",
+                form: Form::Required,
+                help: "The file of the text of the proof that shows it",
+            },
+            Word {
+                name: "OTHER_RECORD_ID",
+                form: Form::Required,
+                help: "The other id of the log's last record, or none",
+            },
+            Word {
+                name: "OTHER_PROOF",
+                form: Form::Required,
+                help: "The file of the text of the proof that shows that",
+            },
+        ],
+        choices: &[JSON, LIMIT],
+    },
+    Row {
+        name: "beginnings",
+        about: "Says how two checkpoints compare from which a newer one goes on",
+        example: "Example: weoldrin compare beginnings one.json one.txt two.json two.txt new.json
+
+The checkpoints are as those of `compare checkpoints`, and the proofs are of
+consistency.",
+        words: &[
+            OLD,
+            Word {
+                name: "OLD_PROOF",
+                form: Form::Required,
+                help: "The file of the text of the proof that the newer log goes on from that one's",
+            },
+            Word {
+                name: "OTHER",
+                form: Form::Required,
+                help: "The file of the other older signed checkpoint's JSON",
+            },
+            Word {
+                name: "OTHER_PROOF",
+                form: Form::Required,
+                help: "The file of the text of the proof that the newer log goes on from that one's",
+            },
+            NEW,
+        ],
+        choices: &[JSON, LIMIT],
+    },
 ];

@@ -89,6 +89,8 @@ fn read_places(command: Command) -> &'static [usize]
         Command::Verify(Verifying::Absence) => &[0, 2],
         Command::Compare(Comparing::Checkpoints) => &[0, 1, 2],
         Command::Compare(Comparing::Leaves) => &[1, 4, 5, 8],
+        Command::Compare(Comparing::Heads) => &[0, 3, 5],
+        Command::Compare(Comparing::Beginnings) => &[0, 1, 2, 3, 4],
     }
 }
 

@@ -14,8 +14,8 @@ pub use names::invocation_answer;
 pub use schemes::KnownSchemes;
 pub use tool_layout::{Look, NameFault, Names, NamesParseError};
 pub use tool_words::{
-    CheckpointQuery, Demands, Invocation, LeafIds, LogQuery, NamedLog, NewRecord, Request, Schemes,
-    ShownIds, Signer, Statement, Task, Views, Wanted,
+    BeginningFiles, CheckpointQuery, Demands, HeadWords, Invocation, LeafIds, LogQuery, NamedLog,
+    NewRecord, Request, Schemes, ShownIds, Signer, Statement, Task, Views, Wanted,
 };
 pub use warg_audit::LogKind;
 pub use warg_audit::files::change::{HoldError, UnwrittenError, WriteError};
