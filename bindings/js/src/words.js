@@ -67,7 +67,8 @@ const VALUES = {
 };
 // Commands that the tool of the repository has beside, which has no other of this name.
 const OTHERS = (
-  "id show state resume latest permissions chain compare claims make append log-id prove verify message leaf"
+  "id show state resume head resumed-head latest permissions chain compare claims make append log-id prove verify " +
+  "message leaf"
 ).split(" ");
 
 const MORE = "\n\nFor more information, try '--help'.";

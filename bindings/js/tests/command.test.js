@@ -59,7 +59,8 @@ function isPlayed({ words, prints_with: helps }) {
 
 /** The fragments of help that name commands of the tool alone. */
 const OTHERS =
-  "id|show|state|resume|latest|permissions|chain|compare|claims|make|append|log-id|prove|verify|message|leaf";
+  "id|show|state|resume|head|resumed-head|latest|permissions|chain|compare|claims|make|append|log-id|prove|verify|" +
+  "message|leaf";
 const isOwn = (fragment) => !new RegExp(`^\\n {2}(${OTHERS}) `).test(fragment);
 
 test("the rows of the tool that ask for an audit", { skip: without("conformance/tool") }, (context) => {

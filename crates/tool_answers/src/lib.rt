@@ -14,4 +14,4 @@ mod reencoded;
 pub mod reply;
 pub mod side;
 pub mod unread;
-mod wording;
+pub mod wording;

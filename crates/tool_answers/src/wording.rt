@@ -44,7 +44,7 @@ fn utc_words(alloc: Global, shown: DateTime) -> Result<String, AllocError>
 }
 
 /// The time as RFC 3339 says it, in UTC; where the calendar does not reach, as seconds and nanoseconds since 1970.
-pub(crate) fn time_words(alloc: Global, time: Timestamp) -> Result<String, AllocError>
+pub fn time_words(alloc: Global, time: Timestamp) -> Result<String, AllocError>
     ensures { IfOk result (λ text. IsTimeText time (string_bytes text)) }
 {
     match jiff::Timestamp::new(time.seconds(), time.nanos() as i32) {

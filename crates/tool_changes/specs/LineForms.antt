@@ -130,6 +130,12 @@ bad_state = a_tag (codes "verdict") (codes "bad") (codes "bad state") ∷ a_word
 abbrev pub state : List PartView
 state = a_json (codes "state") ∷ []
 
+abbrev pub head : List PartView
+head = a_text (codes "id") ∷ a_text (codes "time") ∷ a_number (codes "version") ∷ a_number (codes "records") ∷ []
+
+abbrev pub uncounted_head : List PartView
+uncounted_head = a_text (codes "id") ∷ a_text (codes "time") ∷ a_number (codes "version") ∷ a_null (codes "records") (codes "unknown") ∷ []
+
 -- the forms of the lines of commands that tell records, or where they are
 unfoldable pub record_forms : List RowView
 record_forms =
@@ -174,6 +180,8 @@ other_forms =
     ∷ record { command = codes "append"; forms = ok ∷ ok_empty ∷ empty ∷ busy ∷ refused ∷ bad_line ∷ released ∷ yanked ∷ [] }
     ∷ record { command = codes "state"; forms = refused ∷ bad_line ∷ no_json ∷ state ∷ [] }
     ∷ record { command = codes "resume"; forms = refused ∷ bad_line ∷ no_json ∷ bad_state ∷ state ∷ [] }
+    ∷ record { command = codes "head"; forms = refused ∷ bad_line ∷ none ∷ head ∷ [] }
+    ∷ record { command = codes "resumed-head"; forms = refused ∷ bad_line ∷ none ∷ bad_state ∷ head ∷ uncounted_head ∷ [] }
     ∷ record { command = codes "latest"; forms = refused ∷ bad_line ∷ none ∷ (a_text (codes "release") ∷ a_text (codes "content") ∷ []) ∷ [] }
     ∷ record {
       command = codes "permissions";

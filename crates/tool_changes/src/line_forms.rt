@@ -165,7 +165,25 @@ const STATE: Form = Form {
     parts: &[Part::Json("state")],
 };
 
-static OTHER_FORMS: [CommandForms; 14] = [
+const HEAD: Form = Form {
+    parts: &[
+        Part::Text("id"),
+        Part::Text("time"),
+        Part::Number("version"),
+        Part::Number("records"),
+    ],
+};
+
+const UNCOUNTED_HEAD: Form = Form {
+    parts: &[
+        Part::Text("id"),
+        Part::Text("time"),
+        Part::Number("version"),
+        Part::Null("records", "unknown"),
+    ],
+};
+
+static OTHER_FORMS: [CommandForms; 16] = [
     CommandForms {
         command: "id",
         forms: &[
@@ -211,6 +229,14 @@ static OTHER_FORMS: [CommandForms; 14] = [
     CommandForms {
         command: "resume",
         forms: &[REFUSED, BAD_LINE, NO_JSON, BAD_STATE, STATE],
+    },
+    CommandForms {
+        command: "head",
+        forms: &[REFUSED, BAD_LINE, NONE, HEAD],
+    },
+    CommandForms {
+        command: "resumed-head",
+        forms: &[REFUSED, BAD_LINE, NONE, BAD_STATE, HEAD, UNCOUNTED_HEAD],
     },
     CommandForms {
         command: "latest",

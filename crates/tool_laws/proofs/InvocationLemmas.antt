@@ -38,6 +38,8 @@ module _ (look : Look) (names : ArePrintable look.names) (text : List ℕ) (h : 
   question_layout : (it : LogQuery) → IsPrintedText (layout_of_question it look text)
   question_layout (question.State log limit) = h
   question_layout (question.Resume state log limit) = h
+  question_layout (question.Head log) = h
+  question_layout (question.ResumedHead state log count) = h
   question_layout (question.Permissions key_id log) = h
   question_layout (question.Chain key_id permission log) = (chain_lines look 0 (lines text), shown-chain_layout look names text (lines_shown text h))
   question_layout (question.Compare old new) = h

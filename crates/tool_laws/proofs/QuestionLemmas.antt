@@ -8,6 +8,7 @@ use Rattle.warg_protocol.specs.Records.{RecordId, hash_text}
 use Rattle.warg_replay.specs.declared.audited_log.comparison.Comparison.{Comparison}
 use Rattle.warg_replay.specs.declared.audited_log.comparison.Comparison.TheVariants.{Collision, Fork, LeftIsPrefix, RightIsPrefix, Same}
 use Rattle.warg_replay.specs.declared.audited_log.link.Link.{Link}
+use Rattle.warg_log.specs.declared.head.Head.{Head}
 use Rattle.warg_audit.specs.LogAnswers.{head_text, run_error}
 use Rattle.warg_audit.specs.Printouts.{OutputData, bad_line}
 use Rattle.tool_answers.specs.ShownWords.{RecordWords}
@@ -23,7 +24,8 @@ use Rattle.warg_crypto.specs.declared.json.error.JsonError.TheVariants as value
 use Rattle.warg_saved_states.specs.declared.error.JsonTextError.TheVariants as text
 use Rattle.tool_questions.specs.QuestionAnswers.{Askable, IsQuestionAnswer}
 use Rattle.tool_questions.specs.Questions.{IsChainText, IsCompared, IsComparedWith, IsComparisonText, IsPermissionsText, IsStateText, both, by_new, of_new, of_old}
-use Rattle.tool_questions.specs.Resumption.{IsGoneOn, IsResumed, first_bad, first_refused, gone_on, no_state, resumed}
+use Rattle.tool_questions.specs.HeadTexts.{IsHeadLine, IsHeadText, IsResumedHead, count_text, head_line}
+use Rattle.tool_questions.specs.Resumption.{IsNextText, IsNoLead, IsNoNext, IsResumed, first_bad, first_refused, no_lead, no_next, no_state, resumed}
 use Rattle.tool_questions.specs.StateFaults.{bad_state, case_name, state_fault_name, value_name}
 use Rattle.tool_words.specs.declared.request.LogQuery.{LogQuery}
 use Rattle.tool_words.specs.declared.request.LogQuery.TheVariants as question
@@ -73,6 +75,14 @@ bad_state_clean : (fault : JsonTextError) → IsPrintedText (bad_state fault).te
 bad_state_clean fault =
     line_text (bad_state fault).text
     (plain_line (codes "bad state " ++ state_fault_name fault) (plain_append (codes "bad state ") (state_fault_name fault) refl (fault_plain fault)))
+
+-- ---- last records
+
+head_line_clean : (last : Option Head) (count : Option ℕ) (printed : OutputData) → IsHeadLine last count printed → IsClean printed
+head_line_clean None count printed is = clean_line printed (no (codes "none\n")) is (plain_line (codes "none") refl)
+head_line_clean (Some head) count printed h =
+    clean_same printed (yes (head_line (hash_text head.digest.hash) h.0 (decimal head.version) (count_text count))) h.2
+    (one_line (hash_text head.digest.hash ++ (codes " " ++ (h.0 ++ (codes " " ++ (decimal head.version ++ (codes " " ++ count_text count)))))))
 
 -- ---- permissions
 
@@ -142,18 +152,31 @@ module _ {Meaning Fault View Offence S P : Type 0} (kind : Askable Meaning Fault
   state_clean : (limit : ℕ) (inputs : List (List ℕ)) (printed : OutputData) → IsStateText kind.shown kind.view (saved_text limit kind.json) inputs printed → IsClean printed
   state_clean limit inputs printed h = clean_same printed (json_text limit (kind.json h.state)) h.is (state_text_clean limit (kind.json h.state))
 
-  gone_clean : (limit : ℕ) (state : S) (lines : List (List ℕ)) (printed : OutputData) → IsGoneOn kind.shown belongs kind.view (saved_text limit kind.json) state lines printed
-      → IsClean printed
-  gone_clean limit state lines printed (first_bad index at is) = clean_line printed (bad_line index) is (bad_one index)
-  gone_clean limit state lines printed (first_refused inputs spell index cause first is) =
-      clean_line printed (run_error kind.shown index cause) is (run_error_one kind.shown plain index cause)
-  gone_clean limit state lines printed (resumed inputs spell lawful next stands is) =
-      clean_same printed (json_text limit (kind.json next)) is (state_text_clean limit (kind.json next))
+  lead_clean : (state : S) (lines : List (List ℕ)) (printed : OutputData) → IsNoLead kind.shown belongs kind.view state lines printed → IsClean printed
+  lead_clean state lines printed (first_bad index at is) = clean_line printed (bad_line index) is (bad_one index)
+  lead_clean state lines printed (first_refused inputs spell refused) =
+      clean_line printed (run_error kind.shown refused.index refused.cause) refused.is (run_error_one kind.shown plain refused.index refused.cause)
 
-  resumed_clean : (limit : ℕ) (saved : List ℕ) (lines : List (List ℕ)) (printed : OutputData)
-      → IsResumed kind.shown belongs kind.view (saved_text limit kind.json) kind.reads saved lines printed → IsClean printed
-  resumed_clean limit saved lines printed (no_state fault is_fault is) = clean_same printed (bad_state fault) is (bad_state_clean fault)
-  resumed_clean limit saved lines printed (gone_on state reads h) = gone_clean limit state lines printed h
+  next_clean : (saved : List ℕ) (lines : List (List ℕ)) (printed : OutputData) → IsNoNext kind.shown belongs kind.view kind.reads saved lines printed
+      → IsClean printed
+  next_clean saved lines printed (no_state fault is_fault is) = clean_same printed (bad_state fault) is (bad_state_clean fault)
+  next_clean saved lines printed (no_lead state reads h) = lead_clean state lines printed h
+
+  resumed_clean : (P : S → ℕ → OutputData → Type 0) → ((next : S) (count : ℕ) (printed : OutputData) → P next count printed → IsClean printed)
+      → (saved : List ℕ) (lines : List (List ℕ)) (printed : OutputData)
+      → IsResumed kind.shown belongs kind.view P kind.reads saved lines printed → IsClean printed
+  resumed_clean P each saved lines printed (no_next h) = next_clean saved lines printed h
+  resumed_clean P each saved lines printed (resumed next count is_next h) = each next count printed h
+
+  next_text_clean : (limit : ℕ) (next : S) (count : ℕ) (printed : OutputData) → IsNextText (saved_text limit kind.json) next count printed → IsClean printed
+  next_text_clean limit next count printed is = clean_same printed (json_text limit (kind.json next)) is (state_text_clean limit (kind.json next))
+
+  head_clean : (inputs : List (List ℕ)) (printed : OutputData) → IsHeadText kind.shown kind.view kind.last inputs printed → IsClean printed
+  head_clean inputs printed h = head_line_clean (kind.last h.state) (Some (length inputs)) printed h.is
+
+  resumed_head_clean : (count : Option ℕ) (next : S) (more : ℕ) (printed : OutputData) → IsResumedHead kind.last count next more printed
+      → IsClean printed
+  resumed_head_clean count next more printed h = head_line_clean (kind.last next) h.0 printed h.2
 
   permissions_clean : (word : List ℕ) (inputs : List (List ℕ)) (printed : OutputData)
       → IsPermissionsText kind.shown kind.view kind.has_key kind.knows kind.held kind.order kind.text_of word inputs printed → IsClean printed
@@ -188,7 +211,16 @@ module _ {Meaning Fault View Offence S P : Type 0} (kind : Askable Meaning Fault
       lines_clean files log.now (IsPrintedOf kind.shown belongs (IsStateText kind.shown kind.view (saved_text limit kind.json)))
       (lawful_clean kind.shown plain belongs (IsStateText kind.shown kind.view (saved_text limit kind.json)) (state_clean limit)) printed h
   question_clean files (question.Resume state log limit) printed h =
-      file_clean files state.now _ (λ saved it. lines_clean files log.now (IsResumed kind.shown belongs kind.view (saved_text limit kind.json) kind.reads saved) (resumed_clean limit saved) it) printed h
+      file_clean files state.now _ (λ saved it. lines_clean files log.now
+      (IsResumed kind.shown belongs kind.view (IsNextText (saved_text limit kind.json)) kind.reads saved)
+      (resumed_clean (IsNextText (saved_text limit kind.json)) (next_text_clean limit) saved) it) printed h
+  question_clean files (question.Head log) printed h =
+      lines_clean files log.now (IsPrintedOf kind.shown belongs (IsHeadText kind.shown kind.view kind.last))
+      (lawful_clean kind.shown plain belongs (IsHeadText kind.shown kind.view kind.last) head_clean) printed h
+  question_clean files (question.ResumedHead state log count) printed h =
+      file_clean files state.now _ (λ saved it. lines_clean files log.now
+      (IsResumed kind.shown belongs kind.view (IsResumedHead kind.last count) kind.reads saved)
+      (resumed_clean (IsResumedHead kind.last count) (resumed_head_clean count) saved) it) printed h
   question_clean files (question.Permissions key_id log) printed h =
       lines_clean files log.now _ (lawful_clean kind.shown plain belongs _ (permissions_clean key_id.now)) printed h
   question_clean files (question.Chain key_id permission log) printed h =

@@ -67,6 +67,7 @@ asked_clean log_kind.Package belongs files it printed h =
       order = package_permission.Release ∷ package_permission.Yank ∷ [];
       text_of = packages.permission_text;
       effects = packages.effects;
+      last = λ state. (packages.view_of state).head;
     })
     says_package_words package_plain package_text_plain belongs files it printed h
 asked_clean log_kind.Operator belongs files it printed h =
@@ -82,6 +83,7 @@ asked_clean log_kind.Operator belongs files it printed h =
       order = operator_permission.Commit ∷ operator_permission.DefineNamespace ∷ operator_permission.ImportNamespace ∷ [];
       text_of = operators.permission_text;
       effects = operators.effects;
+      last = λ state. (operators.view_of state).head;
     })
     says_operator_words operator_plain operator_text_plain belongs files it printed h
 

@@ -71,7 +71,7 @@ pub fn releases_are_printed()
         IsLatestAnswer belongs files requirement path printed → IsPrintedText printed.text }
 {}
 
-/// So are the answers to questions: states, permissions, chains and comparisons.
+/// So are the answers to questions: states, last records, permissions, chains and comparisons.
 pub fn questions_are_printed()
     ensures { (kind : LogKind) (belongs : SignatureRelation) (files : Option Files)
         (question : LogQuery) (printed : OutputData) →

@@ -4,5 +4,6 @@ pub mod ChainLemmas
 pub mod StateLemmas
 pub mod CompareLemmas
 pub mod ResumeLemmas
+pub mod HeadLemmas
 pub mod ShowLemmas
 pub mod QuestionWordLaws

@@ -4,6 +4,7 @@ use Rattle.warg_protocol.specs.Errors.{DecodeError}
 use Rattle.warg_protocol.specs.Json.{JsonError, JsonTextError}
 use Rattle.warg_protocol.specs.Logs.{Effects, EnclosedRules, EnvelopeData, Kind, SignatureRelation}
 use Rattle.warg_envelope.specs.Readings.{Reading}
+use Rattle.warg_log.specs.declared.head.Head.{Head}
 use Rattle.warg_replay.specs.Logs.{LogOf}
 use Rattle.warg_audit.specs.Files.Files.{Files}
 use Rattle.warg_audit.specs.Files.Texts.{no}
@@ -29,9 +30,9 @@ module _ {S E View Offence C M F P : Type 0} {kind : Kind View Offence} {view : 
     (tool : ToolOf order text_of knows has_key json_of state_of words_of says_words sentence_of has_first shows)
     (shown : LogDisplay M F View Offence) (b : SignatureRelation) where
   -- `question_answer`
-  pub answers_question : (held : View → List ℕ → P → Bool) (effects : Effects P) (files : Option Files)
+  pub answers_question : (held : View → List ℕ → P → Bool) (effects : Effects P) (last : S → Option Head) (files : Option Files)
       (question : LogQuery) (printed : OutputData)
-      → IsQuestionAnswer (askable log tool held effects shown) says_words b files question printed
+      → IsQuestionAnswer (askable log tool held effects last shown) says_words b files question printed
       ↔ IsQuestionAnswer (record {
         shown = shown;
         view = view;
@@ -43,8 +44,9 @@ module _ {S E View Offence C M F P : Type 0} {kind : Kind View Offence} {view : 
         order = order;
         text_of = text_of;
         effects = effects;
+        last = last;
       }) says_words b files question printed
-  answers_question held effects files question printed = (λ h. h, λ h. h)
+  answers_question held effects last files question printed = (λ h. h, λ h. h)
 
   module _ (count_of : C → ℕ) (rules : EnclosedRules C View Offence) where
     pub reason : (seen : List EnvelopeData → View) (inputs : List (List ℕ)) (v : View) (input : List ℕ) (index : ℕ)

@@ -1,5 +1,5 @@
 -- What is answered of saved states, and of states as JSON.
-use Rattle.std.proofs.Common.{◌≡◌, ◌⊎◌, inl, inr, ℕ, List, subst, sym, ap, ◌∙◌, Result, Ok, Err}
+use Rattle.std.proofs.Common.{◌≡◌, ◌⊎◌, inl, inr, ℕ, List, length, subst, sym, ap, ◌∙◌, Result, Ok, Err}
 use Rattle.std.specs.Str.{IsUtf8}
 use Rattle.warg_protocol.specs.Json.{JsonTextError, ReturnsOfText}
 use Rattle.warg_saved_states.specs.declared.error.JsonTextError.TheVariants.{OutOfMemory}
@@ -13,7 +13,7 @@ use Rattle.tool_questions.proofs.StateLemmas.{text_is_read}
 use Rattle.warg_audit.proofs.FilesLemmas.AnswerLemmas.{IfOutput-to, Answers-to}
 use Rattle.warg_audit.specs.Files.Answers.{Answers, IfOutput}
 use Rattle.tool_questions.specs.Questions.{IsStateText}
-use Rattle.tool_questions.specs.Resumption.{IsGoneOn, first_bad, first_refused, resumed, IsResumed, no_state, gone_on, read_state}
+use Rattle.tool_questions.specs.Resumption.{IsNext, IsNoLead, IsNoNext, IsResumed, LeadTo, first_bad, first_refused, no_lead, no_next, no_state, read_state, resumed}
 use Rattle.tool_questions.specs.StateFaults.{bad_state}
 use Rattle.tool_answers.specs.Verdicts.{IsLawful, IsNegative, IsPrintedOf, negative, lawful, IsViewOf}
 use Rattle.warg_audit.specs.declared.files.command_output.CommandOutput.{CommandOutput}
@@ -56,44 +56,57 @@ module _ {Meaning Fault View Offence S : Type 0} (log : LogDisplay Meaning Fault
       IfOutput-to (IsNegative log belongs ls) (IsPrintedOf log belongs (IsStateText log view text) ls)
       (λ printed is. negative is) end h
 
+module _ {Meaning Fault View Offence S : Type 0} (log : LogDisplay Meaning Fault View Offence) (belongs : SignatureRelation) (view : S → View) where
   -- ---- a state that goes on
 
-  pub bad_line_goes_on : (state : S) (ls : List (List ℕ)) (end : CommandError)
+  pub bad_line_leads : (state : S) (ls : List (List ℕ)) (end : CommandError)
       → IfOutput (λ printed. (index : ℕ) × ((inputs_of ls ≡ Err (Bad index)) × (printed ≡ bad_line index))) end
-      → IfOutput (IsGoneOn log belongs view text state ls) end
-  bad_line_goes_on state ls end h =
+      → IfOutput (IsNoLead log belongs view state ls) end
+  bad_line_leads state ls end h =
       IfOutput-to (λ printed. (index : ℕ) × ((inputs_of ls ≡ Err (Bad index)) × (printed ≡ bad_line index)))
-      (IsGoneOn log belongs view text state ls)
+      (IsNoLead log belongs view state ls)
       (λ printed bad. first_bad bad.0 (lines.first_bad ls bad.0 bad.1.0) bad.1.1) end h
 
-  pub run_error_goes_on : (state : S) (ls inputs : List (List ℕ)) (end : CommandError) → inputs_of ls ≡ Ok inputs
+  pub run_error_leads : (state : S) (ls inputs : List (List ℕ)) (end : CommandError) → inputs_of ls ≡ Ok inputs
       → IfOutput (IsRefused log belongs (view_after log.kind (view state)) inputs) end
-      → IfOutput (IsGoneOn log belongs view text state ls) end
-  run_error_goes_on state ls inputs end e h =
-      IfOutput-to (IsRefused log belongs (view_after log.kind (view state)) inputs) (IsGoneOn log belongs view text state ls)
-      (λ printed refused. first_refused inputs (lines.spell_from 0 ls inputs e) refused.index refused.cause refused.first refused.is) end h
+      → IfOutput (IsNoLead log belongs view state ls) end
+  run_error_leads state ls inputs end e h =
+      IfOutput-to (IsRefused log belongs (view_after log.kind (view state)) inputs) (IsNoLead log belongs view state ls)
+      (λ printed refused. first_refused inputs (lines.spell_from 0 ls inputs e) refused) end h
 
-  pub state_goes_on : (state next : S) (ls inputs : List (List ℕ)) (result : Result CommandOutput CommandError) → inputs_of ls ≡ Ok inputs
+  pub state_leads : (state next : S) (ls inputs : List (List ℕ)) (count : ℕ) → inputs_of ls ≡ Ok inputs
       → HasNoOffence log.kind belongs (envelope_of log.read) (view_after log.kind (view state)) inputs
       → view next ≡ view_after log.kind (view state) (read_all (envelope_of log.read) inputs)
-      → Answers (λ printed. printed ≡ text next) result → Answers (IsGoneOn log belongs view text state ls) result
-  state_goes_on state next ls inputs result e none after h =
-      Answers-to (λ printed. printed ≡ text next) (IsGoneOn log belongs view text state ls)
-      (λ printed is. resumed inputs (lines.spell_from 0 ls inputs e) none next after is) result h
+      → count ≡ length inputs → LeadTo log belongs view state ls next count
+  state_leads state next ls inputs count e none after counted =
+      record { inputs = inputs; spell = lines.spell_from 0 ls inputs e; lawful = none; after = after; counted = counted }
 
   -- ---- a file and what goes on from it
 
   module _ (reads : List ℕ → Result S JsonTextError) where
-    pub no_state_resumes : (saved : List ℕ) (ls : List (List ℕ)) (end : CommandError)
+    pub no_state_leads : (saved : List ℕ) (ls : List (List ℕ)) (end : CommandError)
         → IfOutput (λ printed. (fault : JsonTextError) × ((read_state reads saved ≡ Err fault) × (printed ≡ bad_state fault))) end
-        → IfOutput (IsResumed log belongs view text reads saved ls) end
-    no_state_resumes saved ls end h =
+        → IfOutput (IsNoNext log belongs view reads saved ls) end
+    no_state_leads saved ls end h =
         IfOutput-to (λ printed. (fault : JsonTextError) × ((read_state reads saved ≡ Err fault) × (printed ≡ bad_state fault)))
-        (IsResumed log belongs view text reads saved ls) (λ printed told. no_state told.0 told.1.0 told.1.1) end h
+        (IsNoNext log belongs view reads saved ls) (λ printed told. no_state told.0 told.1.0 told.1.1) end h
 
-    pub state_resumes : (saved : List ℕ) (ls : List (List ℕ)) (state : S) (result : Result CommandOutput CommandError)
-        → read_state reads saved ≡ Ok state → Answers (IsGoneOn log belongs view text state ls) result
-        → Answers (IsResumed log belongs view text reads saved ls) result
-    state_resumes saved ls state result e h =
-        Answers-to (IsGoneOn log belongs view text state ls) (IsResumed log belongs view text reads saved ls)
-        (λ printed told. gone_on state e told) result h
+    pub no_lead_next : (saved : List ℕ) (ls : List (List ℕ)) (state : S) (end : CommandError) → read_state reads saved ≡ Ok state
+        → IfOutput (IsNoLead log belongs view state ls) end → IfOutput (IsNoNext log belongs view reads saved ls) end
+    no_lead_next saved ls state end e h =
+        IfOutput-to (IsNoLead log belongs view state ls) (IsNoNext log belongs view reads saved ls)
+        (λ printed told. no_lead state e told) end h
+
+    module _ (P : S → ℕ → OutputData → Type 0) where
+      pub none_resumed : (saved : List ℕ) (ls : List (List ℕ)) (end : CommandError) → IfOutput (IsNoNext log belongs view reads saved ls) end
+          → IfOutput (IsResumed log belongs view P reads saved ls) end
+      none_resumed saved ls end h =
+          IfOutput-to (IsNoNext log belongs view reads saved ls) (IsResumed log belongs view P reads saved ls)
+          (λ printed told. no_next told) end h
+
+      pub next_resumed : (saved : List ℕ) (ls : List (List ℕ)) (next : S) (count : ℕ) (result : Result CommandOutput CommandError)
+          → IsNext log belongs view reads saved ls next count → Answers (P next count) result
+          → Answers (IsResumed log belongs view P reads saved ls) result
+      next_resumed saved ls next count result is_next h =
+          Answers-to (P next count) (IsResumed log belongs view P reads saved ls)
+          (λ printed told. resumed next count is_next told) result h

@@ -2,6 +2,7 @@
 use Rattle.std.specs.Prelude.{ℕ, Bool, List, Option, Result}
 use Rattle.warg_protocol.specs.Json.{JsonError, JsonTextError}
 use Rattle.warg_protocol.specs.Logs.{Effects, EnvelopeData, Kind}
+use Rattle.warg_log.specs.declared.head.Head.{Head}
 use Rattle.warg_replay.specs.Logs.{LogOf}
 use Rattle.warg_audit.specs.LogAnswers.{LogDisplay}
 use Rattle.tool_answers.specs.ShownWords.{RecordWords}
@@ -15,10 +16,10 @@ module _ {S E View Offence C P : Type 0} {kind : Kind View Offence} {view : S �
     {has_first : ℕ → C → C → Type 0} {shows : List EnvelopeData → List ℕ → Type 0}
     (log : LogOf kind view offence_of)
     (tool : ToolOf order text_of knows has_key json_of state_of words_of says_words sentence_of has_first shows) where
-  -- the kind of log as questions are asked of it, by what keys hold, what entries do, and how it is shown
-  abbrev pub askable : {M F : Type 0} → (View → List ℕ → P → Bool) → Effects P → LogDisplay M F View Offence
+  -- the kind of log as questions are asked of it, by what keys hold, what entries do, which record is the last, and how it is shown
+  abbrev pub askable : {M F : Type 0} → (View → List ℕ → P → Bool) → Effects P → (S → Option Head) → LogDisplay M F View Offence
       → Askable M F View Offence S P
-  askable held effects shown = record {
+  askable held effects last shown = record {
     shown = shown;
     view = view;
     json = json_of;
@@ -29,4 +30,5 @@ module _ {S E View Offence C P : Type 0} {kind : Kind View Offence} {view : S �
     order = order;
     text_of = text_of;
     effects = effects;
+    last = last;
   }

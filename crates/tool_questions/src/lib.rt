@@ -5,6 +5,7 @@
 mod asked;
 mod chain;
 mod compare;
+pub mod head;
 mod permissions;
 mod questions;
 mod resume;

@@ -1,12 +1,13 @@
 //! What is asked of logs of one kind, from the files that are named.
 
 ghost use Rattle.warg_audit.specs.Files.Answers.{Answers};
+ghost use Rattle.tool_questions.specs.HeadTexts.{IsHeadText, IsResumedHead};
 ghost use Rattle.tool_questions.specs.Questions.{IsChainText, IsCompared, IsPermissionsText, IsStateText};
 ghost use Rattle.warg_audit.specs.Files.RecordLines.{record_lines};
 ghost use Rattle.tool_questions.specs.QuestionAnswers.{IsQuestionAnswer};
 ghost use Rattle.tool_questions.specs.QuestionWords.{askable};
 ghost use Rattle.warg_audit.specs.Files.Unusable.{IsOfFile, IsOfLines};
-ghost use Rattle.tool_questions.specs.Resumption.{IsResumed};
+ghost use Rattle.tool_questions.specs.Resumption.{IsNextText, IsResumed};
 ghost use Rattle.warg_audit.specs.ReportWords.{ForDisplay};
 ghost use Rattle.tool_answers.specs.Texts.{saved_text};
 ghost use Rattle.tool_answers.specs.Verdicts.{IsPrintedOf};
@@ -15,6 +16,7 @@ ghost use Rattle.std.specs.Prelude.{◌≡◌};
 
 use crate::chain::{chain_answer, wanted_permission};
 use crate::compare::compare_answer;
+use crate::head::{HeadedLog, head_answer, resumed_head_answer};
 use crate::permissions::permissions_answer;
 use crate::resume::resume_answer;
 use crate::state::state_answer;
@@ -115,7 +117,7 @@ fn resumed_from_file<L: ToolLog, V: Verifier, S: Store>(
 ) -> Result<CommandOutput, CommandError>
     ensures answered { ForDisplay L.log L.Record.reading L.report (λ log.
         Answers (IsOfLines (S.files store.old) path.now (IsResumed log
-        (V.belongs verifier.now) L.view (saved_text limit L.json_of) L.state_of
+        (V.belongs verifier.now) L.view (IsNextText (saved_text limit L.json_of)) L.state_of
         saved.entry.bytes.items)) result) }
     ensures kept { S.files store.new ≡ S.files store.old }
 {
@@ -135,12 +137,69 @@ fn resumed_from_files<L: ToolLog, V: Verifier, S: Store>(
 ) -> Result<CommandOutput, CommandError>
     ensures answered { ForDisplay L.log L.Record.reading L.report (λ log. Answers
         (IsOfFile (S.files store.old) state.now (λ saved. IsOfLines (S.files store.old) path.now
-        (IsResumed log (V.belongs verifier.now) L.view (saved_text limit L.json_of)
+        (IsResumed log (V.belongs verifier.now) L.view (IsNextText (saved_text limit L.json_of))
         L.state_of saved))) result) }
     ensures kept { S.files store.new ≡ S.files store.old }
 {
     match read_input(alloc, store, state) {
         Ok(saved) => resumed_from_file::<L, V, S>(alloc, verifier, limit, saved, path, store),
+        Err(error) => Err(error),
+    }
+}
+
+fn head_of_file<L: HeadedLog, V: Verifier, S: Store>(
+    alloc: Global,
+    verifier: &V,
+    path: &str,
+    store: &mut S,
+) -> Result<CommandOutput, CommandError>
+    ensures answered { ForDisplay L.log L.Record.reading L.report (λ log.
+        Answers (IsOfLines (S.files store.old) path.now
+        (IsPrintedOf log (V.belongs verifier.now) (IsHeadText log L.view L.last))) result) }
+    ensures kept { S.files store.new ≡ S.files store.old }
+{
+    match read_input(alloc, store, path) {
+        Ok(input) => head_answer::<L, V>(alloc, verifier, input),
+        Err(error) => Err(error),
+    }
+}
+
+fn resumed_head_from_file<L: HeadedLog, V: Verifier, S: Store>(
+    alloc: Global,
+    verifier: &V,
+    count: Option<u64>,
+    saved: Input<'_>,
+    path: &str,
+    store: &mut S,
+) -> Result<CommandOutput, CommandError>
+    ensures answered { ForDisplay L.log L.Record.reading L.report (λ log.
+        Answers (IsOfLines (S.files store.old) path.now (IsResumed log
+        (V.belongs verifier.now) L.view (IsResumedHead L.last count) L.state_of
+        saved.entry.bytes.items)) result) }
+    ensures kept { S.files store.new ≡ S.files store.old }
+{
+    match read_input(alloc, store, path) {
+        Ok(input) => resumed_head_answer::<L, V>(alloc, verifier, count, saved, input),
+        Err(error) => Err(error),
+    }
+}
+
+fn resumed_head_from_files<L: HeadedLog, V: Verifier, S: Store>(
+    alloc: Global,
+    verifier: &V,
+    count: Option<u64>,
+    state: &str,
+    path: &str,
+    store: &mut S,
+) -> Result<CommandOutput, CommandError>
+    ensures answered { ForDisplay L.log L.Record.reading L.report (λ log. Answers
+        (IsOfFile (S.files store.old) state.now (λ saved. IsOfLines (S.files store.old) path.now
+        (IsResumed log (V.belongs verifier.now) L.view (IsResumedHead L.last count)
+        L.state_of saved))) result) }
+    ensures kept { S.files store.new ≡ S.files store.old }
+{
+    match read_input(alloc, store, state) {
+        Ok(saved) => resumed_head_from_file::<L, V, S>(alloc, verifier, count, saved, path, store),
         Err(error) => Err(error),
     }
 }
@@ -182,14 +241,14 @@ fn compared_files<L: ToolLog, V: Verifier, S: Store>(
 }
 
 /// The answer to what is asked of logs of this kind.
-pub fn question_answer<L: ToolLog, V: Verifier, S: Store>(
+pub fn question_answer<L: HeadedLog, V: Verifier, S: Store>(
     alloc: Global,
     verifier: &V,
     question: &LogQuery<'_>,
     store: &mut S,
 ) -> Result<CommandOutput, CommandError>
     ensures answered { ForDisplay L.log L.Record.reading L.report (λ log.
-        Answers (IsQuestionAnswer (askable L.log L.tool L.holds L.effects log) L.says_words
+        Answers (IsQuestionAnswer (askable L.log L.tool L.holds L.effects L.last log) L.says_words
         (V.belongs verifier.now) (S.files store.old) question.now) result) }
     ensures kept { S.files store.new ≡ S.files store.old }
 {
@@ -199,6 +258,10 @@ pub fn question_answer<L: ToolLog, V: Verifier, S: Store>(
         }
         LogQuery::Resume { state, log, limit } => {
             resumed_from_files::<L, V, S>(alloc, verifier, *limit, state, log, store)
+        }
+        LogQuery::Head { log } => head_of_file::<L, V, S>(alloc, verifier, log, store),
+        LogQuery::ResumedHead { state, log, count } => {
+            resumed_head_from_files::<L, V, S>(alloc, verifier, *count, state, log, store)
         }
         LogQuery::Permissions { key_id, log } => {
             permissions_of_file::<L, V, S>(alloc, verifier, key_id, log, store)

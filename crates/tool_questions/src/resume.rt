@@ -1,13 +1,13 @@
 //! `resume`: the state after more records, from a saved one.
 
-ghost use Rattle.std.specs.Prelude.{◌≡◌, ℕ, List, map, Ok, IfOk, IfErr};
+ghost use Rattle.std.specs.Prelude.{◌≡◌, ℕ, List, length, map, Ok, IfOk, IfErr};
 ghost use Rattle.std.specs.Vec.{vec_items};
 ghost use Rattle.warg_audit.specs.Files.Lines.{inputs_of};
 ghost use Rattle.warg_protocol.specs.Json.{JsonTextError as OfJsonTextError};
 ghost use Rattle.warg_saved_states.specs.JsonText.{ReturnsOfText};
 ghost use Rattle.warg_saved_states.specs.declared.error.JsonTextError.TheVariants as text;
 ghost use Rattle.warg_audit.specs.Files.Answers.{output_data, Answers, IfOutput};
-ghost use Rattle.tool_questions.specs.Resumption.{IsGoneOn, IsResumed, read_state};
+ghost use Rattle.tool_questions.specs.Resumption.{IsNext, IsNextText, IsNoLead, IsNoNext, IsResumed, LeadTo, read_state};
 ghost use Rattle.warg_audit.specs.Files.RecordLines.{record_lines};
 ghost use Rattle.tool_questions.specs.StateFaults.{bad_state, case_name, state_fault_name, value_name};
 ghost use Rattle.tool_answers.specs.Texts.{saved_text};
@@ -122,38 +122,82 @@ fn saved_state<L: ToolLog>(alloc: Global, input: &Input<'_>) -> Result<L, Comman
 fn state_after_inputs<L: ToolLog, V: Verifier>(
     alloc: Global,
     verifier: &V,
-    limit: u64,
     state: L,
     path: &str,
     inputs: &[Vec<u8>],
-) -> Result<CommandOutput, CommandError>
-    ensures { ForDisplay L.log L.Record.reading L.report (λ log.
+) -> Result<L, CommandError>
+    ensures ok { ForDisplay L.log L.Record.reading L.report (λ log.
         (lines : List (List ℕ)) → inputs_of lines ≡ Ok (map vec_items inputs.now) →
-        Answers (IsGoneOn log (V.belongs verifier.now) L.view (saved_text limit L.json_of)
-        state lines) result) }
+        IfOk result (λ next. LeadTo log (V.belongs verifier.now) L.view state lines next
+        (length inputs.now))) }
+    ensures err { ForDisplay L.log L.Record.reading L.report (λ log.
+        (lines : List (List ℕ)) → inputs_of lines ≡ Ok (map vec_items inputs.now) →
+        IfErr result (IfOutput (IsNoLead log (V.belongs verifier.now) L.view state lines))) }
 {
     match run_from(alloc, state, verifier, inputs) {
-        Ok(next) => json_answer(alloc, limit, &next),
+        Ok(next) => Ok(next),
         Err(error) => Err(refused::<L>(alloc, path, &error)),
     }
 }
 
-// The state after the records in a file.
+// The state after the records that inputs are, and how many these are.
+fn counted_after<L: ToolLog, V: Verifier>(
+    alloc: Global,
+    verifier: &V,
+    state: L,
+    path: &str,
+    inputs: &[Vec<u8>],
+) -> Result<(L, usize), CommandError>
+    ensures ok { ForDisplay L.log L.Record.reading L.report (λ log.
+        (lines : List (List ℕ)) → inputs_of lines ≡ Ok (map vec_items inputs.now) →
+        IfOk result (λ gone. LeadTo log (V.belongs verifier.now) L.view state lines gone.0
+        gone.1)) }
+    ensures err { ForDisplay L.log L.Record.reading L.report (λ log.
+        (lines : List (List ℕ)) → inputs_of lines ≡ Ok (map vec_items inputs.now) →
+        IfErr result (IfOutput (IsNoLead log (V.belongs verifier.now) L.view state lines))) }
+{
+    match state_after_inputs(alloc, verifier, state, path, inputs) {
+        Ok(next) => Ok((next, inputs.len())),
+        Err(error) => Err(error),
+    }
+}
+
+// The state after the records in a file, and how many these are.
 fn state_after<L: ToolLog, V: Verifier>(
     alloc: Global,
     verifier: &V,
-    limit: u64,
     state: L,
     input: Input<'_>,
-) -> Result<CommandOutput, CommandError>
-    ensures { ForDisplay L.log L.Record.reading L.report (λ log. Answers
-        (IsGoneOn log (V.belongs verifier.now) L.view (saved_text limit L.json_of) state
-        (record_lines input.entry.bytes.items)) result) }
+) -> Result<(L, usize), CommandError>
+    ensures ok { ForDisplay L.log L.Record.reading L.report (λ log. IfOk result (λ gone.
+        LeadTo log (V.belongs verifier.now) L.view state (record_lines input.entry.bytes.items)
+        gone.0 gone.1)) }
+    ensures err { ForDisplay L.log L.Record.reading L.report (λ log. IfErr result (IfOutput
+        (IsNoLead log (V.belongs verifier.now) L.view state
+        (record_lines input.entry.bytes.items)))) }
 {
     match file_inputs(alloc, input.path, input.bytes) {
-        Ok(inputs) => {
-            state_after_inputs(alloc, verifier, limit, state, input.path, inputs.as_slice())
-        }
+        Ok(inputs) => counted_after(alloc, verifier, state, input.path, inputs.as_slice()),
+        Err(error) => Err(error),
+    }
+}
+
+/// The state after the records in a file, from the one in another, and how many these records are.
+pub(crate) fn resumed<L: ToolLog, V: Verifier>(
+    alloc: Global,
+    verifier: &V,
+    saved: Input<'_>,
+    input: Input<'_>,
+) -> Result<(L, usize), CommandError>
+    ensures ok { ForDisplay L.log L.Record.reading L.report (λ log. IfOk result (λ gone.
+        IsNext log (V.belongs verifier.now) L.view L.state_of saved.entry.bytes.items
+        (record_lines input.entry.bytes.items) gone.0 gone.1)) }
+    ensures err { ForDisplay L.log L.Record.reading L.report (λ log. IfErr result (IfOutput
+        (IsNoNext log (V.belongs verifier.now) L.view L.state_of saved.entry.bytes.items
+        (record_lines input.entry.bytes.items)))) }
+{
+    match saved_state::<L>(alloc, &saved) {
+        Ok(state) => state_after(alloc, verifier, state, input),
         Err(error) => Err(error),
     }
 }
@@ -167,11 +211,12 @@ pub fn resume_answer<L: ToolLog, V: Verifier>(
     input: Input<'_>,
 ) -> Result<CommandOutput, CommandError>
     ensures { ForDisplay L.log L.Record.reading L.report (λ log. Answers
-        (IsResumed log (V.belongs verifier.now) L.view (saved_text limit L.json_of) L.state_of
+        (IsResumed log (V.belongs verifier.now) L.view
+        (IsNextText (saved_text limit L.json_of)) L.state_of
         saved.entry.bytes.items (record_lines input.entry.bytes.items)) result) }
 {
-    match saved_state::<L>(alloc, &saved) {
-        Ok(state) => state_after(alloc, verifier, limit, state, input),
+    match resumed::<L, V>(alloc, verifier, saved, input) {
+        Ok((state, _)) => json_answer(alloc, limit, &state),
         Err(error) => Err(error),
     }
 }

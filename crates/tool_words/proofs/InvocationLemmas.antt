@@ -26,12 +26,13 @@ pub said_call : (words : List (List ℕ)) (called : Command) (parts : Parts) (it
     → Says words (record { called = called; parts = parts }) it → IsCalled (call_if_taken called (Some parts)) words (Some it)
 said_call words called parts it taken says = (record { called = called; parts = parts }, taken_call called parts taken, says)
 
-no_signer : (p q n m rest : Bool) → (p && ((q && (n && (m && false))) && rest)) ≡ false
-no_signer false q n m rest = refl
-no_signer true false n m rest = refl
-no_signer true true false m rest = refl
-no_signer true true true false rest = refl
-no_signer true true true true rest = refl
+no_signer : (p q n m k rest : Bool) → (p && ((q && (n && (m && (k && false)))) && rest)) ≡ false
+no_signer false q n m k rest = refl
+no_signer true false n m k rest = refl
+no_signer true true false m k rest = refl
+no_signer true true true false k rest = refl
+no_signer true true true true false rest = refl
+no_signer true true true true true rest = refl
 
 -- a record is made by no one
 pub unsigned : (places : List (List ℕ)) (given : List (List ℕ × List ℕ)) → signer_in given ≡ None
@@ -42,6 +43,7 @@ unsigned places given e =
     (not (has (codes "--toy") given && has (codes "--verified") given))
     (is_number (value (codes "--at-least") given))
     (is_number (value (codes "--limit") given))
+    (is_number (value (codes "--count") given))
     (reads_once (stdin_places (command.Do doing.Make) places) (stdin_files (command.Do doing.Make) places) (stdin_options given)
     && (is_one_log places || not (has_demand given))))
 

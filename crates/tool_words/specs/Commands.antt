@@ -28,6 +28,8 @@ commands =
     (codes "show", command.Show) ∷
     (codes "state", command.Ask asking.State) ∷
     (codes "resume", command.Ask asking.Resume) ∷
+    (codes "head", command.Ask asking.Head) ∷
+    (codes "resumed-head", command.Ask asking.ResumedHead) ∷
     (codes "latest", command.Latest) ∷
     (codes "permissions", command.Ask asking.Permissions) ∷
     (codes "chain", command.Ask asking.Chain) ∷
@@ -111,6 +113,8 @@ forms command.Show = Kind ∷ Input ∷ []
 forms command.Latest = Word ∷ Input ∷ []
 forms (command.Ask asking.State) = Kind ∷ Input ∷ []
 forms (command.Ask asking.Resume) = Kind ∷ File ∷ Input ∷ []
+forms (command.Ask asking.Head) = Kind ∷ Input ∷ []
+forms (command.Ask asking.ResumedHead) = Kind ∷ File ∷ Input ∷ []
 forms (command.Ask asking.Permissions) = Kind ∷ Word ∷ Input ∷ []
 forms (command.Ask asking.Chain) = Kind ∷ Word ∷ Word ∷ Input ∷ []
 forms (command.Ask asking.Compare) = Kind ∷ File ∷ File ∷ []
@@ -182,6 +186,10 @@ of_audits =
     (codes "--goes-on-from", true) ∷
     of_logs
 
+-- those of a log that goes on from so many records
+abbrev pub of_counted : List (List ℕ × Bool)
+of_counted = (codes "--count", true) ∷ of_logs
+
 -- those of `make`
 abbrev pub of_making : List (List ℕ × Bool)
 of_making = (codes "--key", true) ∷ (codes "--key-text", true) ∷ of_logs
@@ -194,6 +202,8 @@ options command.Show = of_shown
 options command.Latest = of_logs
 options (command.Ask asking.State) = of_logs
 options (command.Ask asking.Resume) = of_logs
+options (command.Ask asking.Head) = of_logs
+options (command.Ask asking.ResumedHead) = of_counted
 options (command.Ask asking.Permissions) = of_logs
 options (command.Ask asking.Chain) = of_shown
 options (command.Ask asking.Compare) = of_logs

@@ -86,6 +86,10 @@ module _ (called : Command) (places : List (List ℕ)) (given : List (List ℕ �
   IsLogQuery (question.State log limit) = (called ≡ command.Ask asking.State) × (log.now ≡ place 1 places) × (limit ≡ limit_in given)
   IsLogQuery (question.Resume state log limit) =
       (called ≡ command.Ask asking.Resume) × (state.now ≡ place 1 places) × (log.now ≡ place 2 places) × (limit ≡ limit_in given)
+  IsLogQuery (question.Head log) = (called ≡ command.Ask asking.Head) × (log.now ≡ place 1 places)
+  IsLogQuery (question.ResumedHead state log count) =
+      (called ≡ command.Ask asking.ResumedHead) × (state.now ≡ place 1 places) × (log.now ≡ place 2 places)
+      × (count ≡ number_in (value (codes "--count") given))
   IsLogQuery (question.Permissions key_id log) =
       (called ≡ command.Ask asking.Permissions) × (key_id.now ≡ place 1 places) × (log.now ≡ place 2 places)
   IsLogQuery (question.Chain key_id permission log) =

@@ -139,7 +139,8 @@ abbrev pub takes_options : Command → List (List ℕ × List ℕ) → Bool
 takes_options command given =
     not (has (codes "--toy") given && has (codes "--verified") given)
     && (is_number (value (codes "--at-least") given)
-    && (is_number (value (codes "--limit") given) && (not (is_make command) || is_some (signer_in given))))
+    && (is_number (value (codes "--limit") given)
+    && (is_number (value (codes "--count") given) && (not (is_make command) || is_some (signer_in given)))))
 
 -- whether a command takes these places with these options
 abbrev pub is_taken : Command → List (List ℕ) → List (List ℕ × List ℕ) → Bool

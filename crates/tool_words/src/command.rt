@@ -8,6 +8,8 @@ ghost use Rattle.tool_words.specs.Commands.{command_of, commands, comparison, co
 pub(crate) enum Asking {
     State,
     Resume,
+    Head,
+    ResumedHead,
     Permissions,
     Chain,
     Compare,
@@ -83,6 +85,8 @@ pub(crate) fn of_name(name: &str) -> Option<Command>
         "show" => Some(Command::Show),
         "state" => Some(Command::Ask(Asking::State)),
         "resume" => Some(Command::Ask(Asking::Resume)),
+        "head" => Some(Command::Ask(Asking::Head)),
+        "resumed-head" => Some(Command::Ask(Asking::ResumedHead)),
         "latest" => Some(Command::Latest),
         "permissions" => Some(Command::Ask(Asking::Permissions)),
         "chain" => Some(Command::Ask(Asking::Chain)),
@@ -173,8 +177,8 @@ impl Command {
     {
         match self {
             Command::Id | Command::Audit | Command::Show | Command::Latest => 1,
-            Command::Ask(Asking::State) => 1,
-            Command::Ask(Asking::Resume | Asking::Permissions) => 2,
+            Command::Ask(Asking::State | Asking::Head) => 1,
+            Command::Ask(Asking::Resume | Asking::ResumedHead | Asking::Permissions) => 2,
             Command::Ask(Asking::Chain | Asking::Compare) => 3,
             Command::Do(Doing::Claims) => 1,
             Command::Do(Doing::Make) => 3,
@@ -202,8 +206,9 @@ impl Command {
         match self {
             Command::Id | Command::Show | Command::Latest => 2,
             Command::Audit => 3,
-            Command::Ask(Asking::State) => 2,
-            Command::Ask(Asking::Resume | Asking::Permissions | Asking::Compare) => 3,
+            Command::Ask(Asking::State | Asking::Head) => 2,
+            Command::Ask(Asking::Resume | Asking::ResumedHead) => 3,
+            Command::Ask(Asking::Permissions | Asking::Compare) => 3,
             Command::Ask(Asking::Chain) => 4,
             Command::Do(Doing::Claims) => 2,
             Command::Do(Doing::Make) => 4,

@@ -80,6 +80,12 @@ impl<'a> Parts<'a> {
                 log: self.place(2),
                 limit: self.limit(),
             },
+            Asking::Head => LogQuery::Head { log: self.place(1) },
+            Asking::ResumedHead => LogQuery::ResumedHead {
+                state: self.place(1),
+                log: self.place(2),
+                count: number_in(self.value("--count")),
+            },
             Asking::Permissions => LogQuery::Permissions {
                 key_id: self.place(1),
                 log: self.place(2),

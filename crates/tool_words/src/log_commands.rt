@@ -20,6 +20,18 @@ const BEGUN: Word = Word {
     help: "The log's file; none yet is a log without records",
 };
 
+const STATE: Word = Word {
+    name: "STATE",
+    form: Form::Required,
+    help: "The file of the saved state",
+};
+
+const NEWS: Word = Word {
+    name: "LOG",
+    form: Form::Input,
+    help: "The records that came since",
+};
+
 const KEY_ID: Word = Word {
     name: "KEY_ID",
     form: Form::Required,
@@ -84,6 +96,18 @@ const OF_AUDITS: &[Choice] = &[
         name: "goes-on-from",
         value: Some("FILE"),
         help: "An older copy, which the log has to go on from; with one log alone",
+    },
+];
+
+const OF_COUNTED: &[Choice] = &[
+    JSON,
+    LIMIT,
+    VERIFIED,
+    TOY,
+    Choice {
+        name: "count",
+        value: Some("N"),
+        help: "How many records the log had when the state was saved",
     },
 ];
 
@@ -156,20 +180,22 @@ pub(crate) const QUESTIONS: &[Row] = &[
         name: "resume",
         about: "Prints the state after more records, from a saved one",
         example: "Example: weoldrin resume package state.json news.hex",
-        words: &[
-            KIND,
-            Word {
-                name: "STATE",
-                form: Form::Required,
-                help: "The file of the saved state",
-            },
-            Word {
-                name: "LOG",
-                form: Form::Input,
-                help: "The records that came since",
-            },
-        ],
+        words: &[KIND, STATE, NEWS],
         choices: OF_LOGS,
+    },
+    Row {
+        name: "head",
+        about: "Prints the last record's id, time and version, and how many there are",
+        example: "Example: weoldrin head package log.hex",
+        words: &[KIND, LOG],
+        choices: OF_LOGS,
+    },
+    Row {
+        name: "resumed-head",
+        about: "Prints the same after more records, from a saved state",
+        example: "Example: weoldrin resumed-head package state.json news.hex --count 120",
+        words: &[KIND, STATE, NEWS],
+        choices: OF_COUNTED,
     },
     Row {
         name: "latest",

@@ -3,7 +3,7 @@
 ghost use Rattle.std.specs.Prelude.{◌≡◌, ◌==◌, IfOk, if◌then◌else◌, length, None, Some, true, map};
 ghost use Rattle.std.specs.Option.{option_map};
 ghost use Rattle.std.specs.List.{before_first, after_first, position_or_len};
-ghost use Rattle.tool_words.specs.Commands.{named, of_all, of_audits, of_files, of_logs, of_making, of_shown, options};
+ghost use Rattle.tool_words.specs.Commands.{named, of_all, of_audits, of_counted, of_files, of_logs, of_making, of_shown, options};
 ghost use Rattle.tool_words.specs.Parts.{and_words, has, is_equals, is_place, no_parts, parts_of, place, value, with_awaited, with_bare, with_dashed, with_joined, with_mark, with_option, with_place, with_word};
 ghost use Rattle.tool_words.specs.PartsViews.{given_view, IfRead, parts_view};
 ghost use Rattle.tool_words.specs.Requests.{text_in, texts};
@@ -57,6 +57,15 @@ fn audit_option(name: &str) -> Option<bool>
     }
 }
 
+fn counted_option(name: &str) -> Option<bool>
+    ensures { result ≡ named name.now of_counted }
+{
+    match name {
+        "--count" => Some(true),
+        _ => log_option(name),
+    }
+}
+
 fn making_option(name: &str) -> Option<bool>
     ensures { result ≡ named name.now of_making }
 {
@@ -94,8 +103,9 @@ fn option_of(command: Command, name: &str) -> Option<bool>
         Command::Show | Command::Ask(Asking::Chain) => shown_option(name),
         Command::Do(Doing::Make) => making_option(name),
         Command::Latest | Command::Do(Doing::Claims | Doing::Append) => log_option(name),
-        Command::Ask(Asking::State | Asking::Resume | Asking::Permissions | Asking::Compare) =>
-            log_option(name),
+        Command::Ask(Asking::ResumedHead) => counted_option(name),
+        Command::Ask(Asking::State | Asking::Resume | Asking::Head) => log_option(name),
+        Command::Ask(Asking::Permissions | Asking::Compare) => log_option(name),
         Command::Verify(Verifying::Checkpoint) => log_option(name),
         Command::Id | Command::Message => file_option(name),
         Command::Prove(_) | Command::Compare(_) => file_option(name),

@@ -33,6 +33,20 @@ pub enum LogQuery<'a> {
         /// How many bytes the new state may have.
         limit: u64,
     },
+    /// The last record, and how many there are.
+    Head {
+        /// The log.
+        log: &'a str,
+    },
+    /// The same after the records of a log, from a saved state.
+    ResumedHead {
+        /// The saved state.
+        state: &'a str,
+        /// The records that came since.
+        log: &'a str,
+        /// How many records the log had when the state was saved, where that is said.
+        count: Option<u64>,
+    },
     /// What a key holds.
     Permissions {
         /// The key's id.

@@ -72,8 +72,8 @@ fn read_places(command: Command) -> &'static [usize]
 {
     match command {
         Command::Id | Command::Audit | Command::Show | Command::Latest => &[1],
-        Command::Ask(Asking::State) => &[1],
-        Command::Ask(Asking::Resume | Asking::Compare) => &[1, 2],
+        Command::Ask(Asking::State | Asking::Head) => &[1],
+        Command::Ask(Asking::Resume | Asking::ResumedHead | Asking::Compare) => &[1, 2],
         Command::Ask(Asking::Permissions) => &[2],
         Command::Ask(Asking::Chain) => &[3],
         Command::Do(Doing::Claims | Doing::Make) => &[1],
@@ -265,7 +265,8 @@ impl<'a> Parts<'a> {
         !(self.has("--toy") && self.has("--verified"))
             && (is_number(self.value("--at-least"))
                 && (is_number(self.value("--limit"))
-                    && (!is_make(command) || self.signer().is_some())))
+                    && (is_number(self.value("--count"))
+                        && (!is_make(command) || self.signer().is_some()))))
     }
 
     /// Whether a command takes these places with these options.
@@ -286,6 +287,8 @@ impl<'a> Parts<'a> {
             Some("--at-least takes decimal digits, a number below 2^64")
         } else if !is_number(self.value("--limit")) {
             Some("--limit takes decimal digits, a number of bytes below 2^64")
+        } else if !is_number(self.value("--count")) {
+            Some("--count takes decimal digits, a number of records below 2^64")
         } else if is_make(command) && self.signer().is_none() {
             Some("make takes --key toy:NAME or --key-text TEXT, and one of them alone")
         } else if !self.reads_once(command) {

@@ -66,6 +66,7 @@ IsAskedAnswer log_kind.Package belongs files question printed =
       order = package_permission.Release ∷ package_permission.Yank ∷ [];
       text_of = packages.permission_text;
       effects = packages.effects;
+      last = λ state. (packages.view_of state).head;
     }) says_package_words belongs files question printed
 IsAskedAnswer log_kind.Operator belongs files question printed =
     IsQuestionAnswer (record {
@@ -79,6 +80,7 @@ IsAskedAnswer log_kind.Operator belongs files question printed =
       order = operator_permission.Commit ∷ operator_permission.DefineNamespace ∷ operator_permission.ImportNamespace ∷ [];
       text_of = operators.permission_text;
       effects = operators.effects;
+      last = λ state. (operators.view_of state).head;
     }) says_operator_words belongs files question printed
 
 -- the greatest release of the log in a file that meets the requirement that a word says

@@ -23,6 +23,8 @@ fn question_layout(
         LogQuery::Chain { .. } => chain_layout(alloc, look, text.as_str()),
         LogQuery::State { .. }
         | LogQuery::Resume { .. }
+        | LogQuery::Head { .. }
+        | LogQuery::ResumedHead { .. }
         | LogQuery::Permissions { .. }
         | LogQuery::Compare { .. } => Ok(text),
     }

@@ -8,6 +8,14 @@ pub returns-in-Resume-clause-answered : goal.returns-in-Resume-clause-answered
 returns-in-Resume-clause-answered g c = λ fault_name offence_name shown reports.
     rw c.in-Resume.is (c.resumed_from_files.ensures.answered fault_name offence_name shown reports)
 
+pub returns-in-Head-clause-answered : goal.returns-in-Head-clause-answered
+returns-in-Head-clause-answered g c = λ fault_name offence_name shown reports.
+    rw c.in-Head.is (c.head_of_file.ensures.answered fault_name offence_name shown reports)
+
+pub returns-in-ResumedHead-clause-answered : goal.returns-in-ResumedHead-clause-answered
+returns-in-ResumedHead-clause-answered g c = λ fault_name offence_name shown reports.
+    rw c.in-ResumedHead.is (c.resumed_head_from_files.ensures.answered fault_name offence_name shown reports)
+
 pub returns-in-Permissions-clause-answered : goal.returns-in-Permissions-clause-answered
 returns-in-Permissions-clause-answered g c = λ fault_name offence_name shown reports.
     rw c.in-Permissions.is (c.permissions_of_file.ensures.answered fault_name offence_name shown reports)
