@@ -4,7 +4,7 @@ ghost use Rattle.std.specs.Prelude.{◌≡◌, ◌<◌, drop, false, IfOk, Match
 ghost use Rattle.tool_words.specs.Commands.{command_of};
 ghost use Rattle.tool_words.specs.Invocations.{call_by, call_if_taken, invocation_of, IsCalled, named_by, word};
 ghost use Rattle.tool_words.specs.PartsViews.{parts_view};
-ghost use Rattle.tool_words.specs.Requests.{AreDemands, AreShownIds, AreViews, IsCheckpointQuery, IsNamedLog, IsNewRecord, IsLogQuery, IsRequest, IsTask, IsWanted, texts};
+ghost use Rattle.tool_words.specs.Requests.{AreDemands, IsCheckpointQuery, IsNamedLog, IsNewRecord, IsLogQuery, IsRequest, IsTask, IsWanted, texts};
 ghost use Rattle.tool_words.specs.Parts.{place};
 ghost use Rattle.tool_words.specs.Rules.{is_taken, kind_of};
 ghost use Rattle.tool_words.specs.declared.command.Command.TheVariants as command;
@@ -12,13 +12,12 @@ ghost use Rattle.tool_words.specs.declared.command.Doing.TheVariants as doing;
 ghost use Rattle.tool_words.specs.declared.command.Verifying.TheVariants as verifying;
 
 use crate::checkpoint::CheckpointQuery;
-use crate::command::{Asking, Command, Comparing, Doing, Naming, Proving, Verifying};
+use crate::command::{Asking, Command, Doing, Naming, Proving, Verifying};
 use crate::parts::Parts;
 use crate::request::{Demands, Invocation, LogQuery, Request};
 use crate::rules::{kind_of, number_in};
 use crate::statement::{LeafIds, NamedLog, Statement, Wanted};
 use crate::task::{NewRecord, Task};
-use crate::views::{ShownIds, Views};
 use std::alloc::{AllocError, Global};
 use warg_audit::LogKind;
 
@@ -188,7 +187,8 @@ impl<'a> Parts<'a> {
         }
     }
 
-    fn leaf(&self, i: usize, j: usize) -> LeafIds<'a>
+    /// A leaf by its two ids.
+    pub(crate) fn leaf(&self, i: usize, j: usize) -> LeafIds<'a>
         ensures log_id { result.log_id.now ≡ place i (parts_view self.now).places }
         ensures record_id { result.record_id.now ≡ place j (parts_view self.now).places }
     {
@@ -255,38 +255,6 @@ impl<'a> Parts<'a> {
             },
         };
         Request::Verify { statement }
-    }
-
-    // A leaf that a registry shows, by the words from a place on.
-    fn shown(&self, i: usize) -> ShownIds<'a>
-        requires { i < 8 }
-        ensures { AreShownIds i (parts_view self.now).places result }
-    {
-        ShownIds {
-            checkpoint: self.place(i),
-            leaf: self.leaf(i + 1, i + 2),
-            proof: self.place(i + 3),
-        }
-    }
-
-    // What is to be compared.
-    fn views(&self, comparing: Comparing) -> Views<'a>
-        ensures { AreViews (command.Compare comparing) (parts_view self.now).places
-            (parts_view self.now).given result }
-    {
-        match comparing {
-            Comparing::Checkpoints => {
-                let (old, new, proof) = (self.place(0), self.place(1), self.place(2));
-                Views::Checkpoints { old, new, proof }
-            }
-            Comparing::Leaves => Views::Leaves {
-                place: self.place(0),
-                old: self.shown(1),
-                new: self.shown(5),
-            },
-            Comparing::Heads => self.heads(),
-            Comparing::Beginnings => self.beginnings(),
-        }
     }
 
     fn audit(&self, alloc: Global, kind: LogKind) -> Result<Request<'a>, AllocError>

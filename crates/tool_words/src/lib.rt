@@ -3,6 +3,7 @@
 
 mod checkpoint;
 mod command;
+mod comparisons;
 mod invocation;
 mod log_commands;
 mod parts;
@@ -13,7 +14,6 @@ mod rules;
 mod statement;
 mod table;
 mod task;
-mod twice;
 mod version;
 mod views;
 mod words;
