@@ -11,6 +11,8 @@ from .specs import Place
 
 # The files of a crate's specs/ that re-export names.
 FOLDER = "crates/warg_protocol/specs"
+# What stands for names of the toolchain alone, which whoever cites a clause can write in its place.
+WRITTEN_OUT = {("warg_saved_states.specs.Asked", "texts")}
 
 
 def reachable() -> dict[Place, list[str]]:
@@ -68,7 +70,8 @@ def missing() -> tuple[dict[Place, set[str]], dict[Place, set[str]]]:
         for name, item in module.items:
             for file, within, members in public_members(item, seen):
                 for place, member in cited(file, within, members):
-                    if place.kind == "kit" or place in known or (place.module, place.name) in seen:
+                    where = (place.module, place.name)
+                    if place.kind == "kit" or place in known or where in seen or where in WRITTEN_OUT:
                         continue
                     is_said = member.kind == "ghost" and within is not None and within.kind == "impl"
                     by = f"{module.path}::{name}" + (f"::{member.name}" if member.name != name else "")

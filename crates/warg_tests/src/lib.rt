@@ -6,6 +6,8 @@
 #[cfg(test)]
 mod asking;
 #[cfg(test)]
+mod bodies;
+#[cfg(test)]
 mod copies;
 #[cfg(test)]
 mod counter_runs;
