@@ -30,6 +30,17 @@ fn slots_for(entries: usize) -> usize {
     }
 }
 
+/// How many keys are few.
+const FEW: usize = 4;
+
+/// How many slots near buckets have for as many entries: none for few.
+fn near_slots_for(entries: usize) -> usize {
+    if entries <= FEW {
+        return 0;
+    }
+    slots_for(entries)
+}
+
 /// Buckets with no place, for as many entries.
 fn empty_buckets(alloc: Global, entries: usize) -> Result<Vec<Slot>, AllocError> {
     let mut slots = Vec::new(alloc);
@@ -164,7 +175,7 @@ impl<K: Ord> Index<K> {
         K: Drop,
         ensures err { OnErr result ((cmp : K → K → Ordering) (h f : ℕ) (k : K) (i : ℕ) → HasEntry cmp self.old h f k i → HasEntry cmp self.new h f k i) }
     {
-        let count = slots_for(near);
+        let count = near_slots_for(near);
         reserve_slots(&mut self.near, count)?;
         self.further = further_for(alloc, second)?;
         empty_slots(&mut self.near, count);

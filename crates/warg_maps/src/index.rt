@@ -14,14 +14,14 @@ use std::collections::BTreeMap;
 use std::hash::{DefaultHasher, Hash, Hasher};
 
 /// The places of the entries, by the keys. A key whose near bucket is full has its place further on. No choice of keys
-/// fills all that is there.
+/// fills all that is there. Few keys have no buckets: a look at all of them is quicker than a hash.
 #[derive(Drop)]
 pub struct Index<K: Ord> {
     /// By the map's own hashes.
     pub near: Vec<Slot>,
     /// The places of the others, once there are any. They are in a box, since a map that moves is to be small.
     pub further: Option<Box<Further<K>>>,
-    /// Whether there was no memory for a place.
+    /// Whether a key has no place, of few or where there was no memory for it.
     pub lacks_places: bool,
 }
 
@@ -102,7 +102,7 @@ fn find_in_bucket<K: Ord + Hash, Q: Query<K>>(
 
 /// The place of the key, by a look at all.
 #[inline(never)]
-fn find_among_all<K: Ord + Hash, Q: Query<K>>(keys: &[K], key: Q) -> Option<usize>
+pub(crate) fn find_among_all<K: Ord + Hash, Q: Query<K>>(keys: &[K], key: Q) -> Option<usize>
     ensures found { IfSome result (IsAt (Q.equivalent key) keys.now) }
     ensures missed { IfNone result ((i : ℕ) → IsAt (Q.equivalent key) keys.now i → ⊥) }
 {
@@ -237,6 +237,12 @@ impl<K: Ord> Index<K> {
 }
 
 impl<K: Ord + Hash> Index<K> {
+    /// Whether there are no near buckets.
+    #[inline(always)]
+    pub(crate) fn has_no_buckets(&self) -> bool {
+        self.near.is_empty()
+    }
+
     /// The place of the key whose near bucket is full, where there was memory for all.
     #[inline(always)]
     fn find_opened<Q: Query<K>>(&self, keys: &[K], far: u64, key: Q) -> Option<usize>
@@ -276,9 +282,8 @@ impl<K: Ord + Hash> Index<K> {
             IsAt (Q.equivalent key) keys.now i → ⊥) }
         ensures far { IfSome result.1 (λ far. far ≡ far_hash (Q.hash_input key)) }
     {
-        // Without buckets, a key would be looked for by its other hash.
-        if keys.is_empty() {
-            return (None, None);
+        if self.has_no_buckets() {
+            return (find_among_all(keys, key), None);
         }
         let (found, near_is_full) = find_in_bucket(&self.near, keys, hash, key);
         if let Some(place) = found {
@@ -349,6 +354,10 @@ impl<K: Ord + Hash + Clone + Drop> Index<K> {
             HasEntry K.cmp self.old h f k i → HasEntry K.cmp self.new h f k i }
     {
         if put(&mut self.near, hash, place as u32) {
+            return;
+        }
+        if self.has_no_buckets() {
+            self.lacks_places = true;
             return;
         }
         let far = given_or_far_hash(far, key);

@@ -12,6 +12,8 @@
 //! 3. A tree of these other hashes, whole. To get past it, two keys need the same 64 bits.
 //! 4. A tree of the keys themselves, ordered as they are compared.
 //!
+//! A map with room for four keys or fewer has no places: a look at all keys is quicker than a hash.
+//!
 //! Where there was no memory for a place in a tree, a key whose near bucket is full is looked for among all keys, until
 //! the map grows and its index is made anew. So an insert into a map with room can't fail.
 //!

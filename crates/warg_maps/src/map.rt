@@ -12,7 +12,7 @@ mod traits;
 
 use crate::Query;
 use crate::buckets::FREE;
-use crate::index::{Index, low_half};
+use crate::index::{Index, find_among_all, low_half};
 use std::alloc::Global;
 use std::hash::{BuildHasher, BuildHasherDefault, FoldHasher, Hash};
 use std::marker::Model;
@@ -20,10 +20,12 @@ use std::marker::Model;
 /// A map in the order of insertion, whose look-ups cost no more by the choice of its keys.
 #[derive(Drop)]
 pub struct NameMap<K: Ord + Hash, V, S: BuildHasher = BuildHasherDefault<FoldHasher>> {
-    pub(crate) keys: Vec<K>,
-    pub(crate) values: Vec<V>,
-    pub(crate) hashes: Vec<u32>,
+    // The index and the hashes go first. Where a block of theirs is let go after many texts of keys were, the C library
+    // joins all that these left.
     pub(crate) index: Index<K>,
+    pub(crate) hashes: Vec<u32>,
+    pub(crate) values: Vec<V>,
+    pub(crate) keys: Vec<K>,
     pub(crate) hash_builder: S,
 }
 
@@ -135,12 +137,27 @@ impl<K: Ord + Hash, V, S: BuildHasher> NameMap<K, V, S> {
         }
     }
 
-    #[inline(always)]
-    pub(crate) fn find<Q: Query<K>>(&self, hash: u32, key: Q) -> Option<usize>
-        requires { hash ≡ table_hash S.BuildHasher S.Hasher.Hasher (hasher_of self.now) (Q.hash_input key) }
+    /// The place of the key, by a look at all.
+    fn find_among_few<Q: Query<K>>(&self, key: Q) -> Option<usize>
         ensures index { result ≡ index_of_by (Q.equivalent key) self.now }
         ensures unique { IsUnique K.eq self.now }
     {
+        match find_among_all(self.keys.as_slice(), key) {
+            Some(place) => Some(place),
+            None => None,
+        }
+    }
+
+    /// The place of the key.
+    #[inline(always)]
+    pub(crate) fn find<Q: Query<K>>(&self, key: Q) -> Option<usize>
+        ensures index { result ≡ index_of_by (Q.equivalent key) self.now }
+        ensures unique { IsUnique K.eq self.now }
+    {
+        if self.index.has_no_buckets() {
+            return self.find_among_few(key);
+        }
+        let hash = self.near_hash_of(key);
         self.search(hash, key).0
     }
 

@@ -1,3 +1,4 @@
+use super::buckets::Slot;
 use super::index::{Further, Index};
 use super::*;
 use std::hash::{DefaultHasher, Hash, Hasher};
@@ -127,6 +128,9 @@ fn finds_keys_that_have_no_place(rt: HostRuntime) -> Result<(), Fail> {
         keys.push(name(&rt, number, false)?)?;
     }
     let mut index = Index::new(rt.alloc());
+    for place in 100..108_u32 {
+        index.near.push(Slot { hash: 7, place })?;
+    }
     for place in 0..keys.len() {
         assert_eq!(rt; index.search(keys.as_slice(), 7, &keys[place]).0, None);
     }
@@ -139,6 +143,21 @@ fn finds_keys_that_have_no_place(rt: HostRuntime) -> Result<(), Fail> {
     }
     let other = name(&rt, 3, false)?;
     assert_eq!(rt; index.search(keys.as_slice(), 7, &other).0, None);
+    Ok(())
+}
+
+#[test]
+fn few_keys_have_no_buckets(rt: HostRuntime) -> Result<(), Fail> {
+    for count in 0..7_usize {
+        let mut map = map_of(&rt, count, true)?;
+        assert!(rt; map.index.has_no_buckets() == (count < 5));
+        for number in 0..count {
+            assert_eq!(rt; map.get(&name(&rt, number, true)?).copied(), Some(number));
+        }
+        assert_eq!(rt; map.get(&name(&rt, count, true)?), None);
+        assert_eq!(rt; map.insert(name(&rt, 0, true)?, 10)?.is_some(), count > 0);
+        assert!(rt; map.clone()? == map);
+    }
     Ok(())
 }
 

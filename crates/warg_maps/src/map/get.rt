@@ -44,8 +44,7 @@ impl<K: Ord + Hash, V, S: BuildHasher> NameMap<K, V, S> {
         ensures value { IfSome result (λ i. slice_get (values self.now) i ≡ get_by (Q.equivalent key) self.now) }
         ensures unique { IsUnique K.eq self.now }
     {
-        let hash = self.near_hash_of(key);
-        self.find(hash, key)
+        self.find(key)
     }
 
     fn lend_value(&mut self, i: usize) -> &mut V

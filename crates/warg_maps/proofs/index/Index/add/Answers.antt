@@ -23,3 +23,7 @@ returns-clause-kept g c h f k i apart e =
       entry = place-kept _ _ _ i _ _ (λ p. subst (λ v. HasPlace v.items h i) (sym c.add_further.ensures.near) (c.put.ensures.kept h i p))
           (λ full. subst (λ v. IsFull v.items h) (sym c.add_further.ensures.near) (c.put.ensures.full h full)) (λ x. c.add_further.ensures.kept f k i apart (further-as _ _ _ f k i refl refl x)) e.entry;
     }
+
+pub returns-then-has_no_buckets-clause-kept : goal.returns-then-has_no_buckets-clause-kept
+returns-then-has_no_buckets-clause-kept g c h f k i apart e =
+    record { entry = place-kept _ _ _ i _ _ (c.put.ensures.kept h i) (c.put.ensures.full h) (λ further. record { entry = inl refl }) e.entry }

@@ -1,7 +1,10 @@
 use mathlib.Core.Path.{sym, subst}
 use Rattle.warg_maps.specs.Index.{HasFurther}
-use Rattle.warg_maps.proofs.IndexLemmas.{no-place, when-none}
+use Rattle.warg_maps.proofs.IndexLemmas.{no-place, on-none, when-none}
 use Rattle.warg_maps.proofs.index.Index.search.Goals as goal
+
+pub returns-then-has_no_buckets-clause-missed : goal.returns-then-has_no_buckets-clause-missed
+returns-then-has_no_buckets-clause-missed g c = on-none c.find_among_all.result c.find_among_all.ensures.missed (λ missed i k stands e at. missed i at)
 
 pub returns-then-not-near_is_full-clause-missed : goal.returns-then-not-near_is_full-clause-missed
 returns-then-not-near_is_full-clause-missed g c i k stands e at =
