@@ -11,8 +11,6 @@ from .specs import Place
 
 # The files of a crate's specs/ that re-export names.
 FOLDER = "crates/warg_protocol/specs"
-# What stands for names of the toolchain alone, which whoever cites a clause can write in its place.
-WRITTEN_OUT = {("warg_saved_states.specs.Asked", "texts")}
 
 
 def reachable() -> dict[Place, list[str]]:
@@ -71,7 +69,7 @@ def missing() -> tuple[dict[Place, set[str]], dict[Place, set[str]]]:
             for file, within, members in public_members(item, seen):
                 for place, member in cited(file, within, members):
                     where = (place.module, place.name)
-                    if place.kind == "kit" or place in known or where in seen or where in WRITTEN_OUT:
+                    if place.kind == "kit" or place in known or where in seen:
                         continue
                     is_said = member.kind == "ghost" and within is not None and within.kind == "impl"
                     by = f"{module.path}::{name}" + (f"::{member.name}" if member.name != name else "")

@@ -16,8 +16,8 @@ use warg_protocol::signing::Verifier;
 use warg_protocol::toy::ToyVerifier;
 use warg_protocol::{RunError, VersionReq, laws, run};
 
-/// The state that the log's envelopes add up to. Each is an envelope whose record is lawful after those before it, and the
-/// state says what their history says.
+/// The state that the log's envelopes add up to. Each is an envelope whose record is lawful after those before it, and
+/// the state says what their history says.
 fn audited<V: Verifier>(
     alloc: Global,
     verifier: &V,

@@ -17,5 +17,7 @@ pub use Rattle.warg_saved_states.specs.Texts.{IsReadAs, text_of}
 -- what `from_json` answers: what is read of the text's JSON, which error of a text a fault of its value is, and what reads back
 pub use Rattle.warg_saved_states.specs.JsonText.{ReturnsOfText, TextReadsBack, in_text, text_fault}
 pub use Rattle.warg_saved_states.specs.declared.error.JsonTextError.{JsonTextError}
+-- what bodies are read as: an envelope, and a published one
+pub use Rattle.warg_envelope.specs.EnvelopeJson.{body_in, published_in}
 -- what `read_asked` makes of a text: the members of those names, as far as that many objects inside one another
-pub use Rattle.warg_saved_states.specs.Asked.{AreAskedOf, AreTaken, IsAskedOf, IsAskedOfText, IsLike}
+pub use Rattle.warg_saved_states.specs.Asked.{AreAskedOf, AreTaken, IsAskedOf, IsAskedOfText, IsLike, is_asked, texts}

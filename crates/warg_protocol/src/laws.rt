@@ -1,6 +1,8 @@
-//! The laws of the crates below. Each is a function whose contract is the law: a proof may cite it after a call.
-//! Most have no effect. Those that print write to their formatter, those that feed a hasher change it, and
+//! The laws of the crates below, and of bodies. Each is a function whose contract is the law: a proof may cite it after
+//! a call. Most have no effect. Those that print write to their formatter, those that feed a hasher change it, and
 //! `crypto::bytes_and_hash` takes memory.
+
+pub mod bodies;
 
 pub use warg_crypto::json::laws as json_values;
 pub use warg_crypto::laws as crypto;
