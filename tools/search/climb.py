@@ -1,4 +1,5 @@
 """The climb to the inputs that cost the most for each of their bytes."""
+import pathlib
 import random
 import sys
 import time
@@ -6,6 +7,9 @@ from collections.abc import Callable, Iterator
 
 from search.calls import CALLS, Cost, cost
 from search.genes import Inputs, any_genes, inputs_of, varied
+
+# What a search of an hour found: the genes of an input in each line.
+FOUND = pathlib.Path(__file__).with_name("found.txt")
 
 # The inputs of the climb, the inputs that its table is of (both in bytes), and after how many seconds of a processor a
 # run is ended.
@@ -105,8 +109,10 @@ def search(seconds: float, seed: int, count: int) -> None:
         print(row(inputs, found), flush=True)
 
 
-def repeat(genes: str) -> None:
-    """Prints the row of the inputs of these genes, made as long as they may be."""
-    inputs = inputs_of(genes)
-    found = cost(inputs, FULL, LIMIT)
-    print(HEAD if found is None else f"{HEAD}\n{row(inputs, found)}")
+def repeat(lines: list[str]) -> None:
+    """Prints the rows of the inputs that the lines say, made as long as they may be."""
+    print(HEAD, flush=True)
+    for inputs in map(inputs_of, lines):
+        found = cost(inputs, FULL, LIMIT)
+        if found is not None:
+            print(row(inputs, found), flush=True)

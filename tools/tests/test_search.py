@@ -10,7 +10,7 @@ TOOLS = pathlib.Path(__file__).resolve().parents[1]
 sys.path.insert(0, str(TOOLS))
 
 from search.calls import CALLS, Cost, cost
-from search.climb import HEIGHTS, Climb
+from search.climb import FOUND, HEIGHTS, Climb
 from search.genes import VALUES, WHAT, Genes, Inputs, Part, any_genes, inputs_of, varied
 from search.made import made
 
@@ -110,6 +110,13 @@ class Climbs(unittest.TestCase):
             inputs = climb.next(draw)
             self.assertEqual([it.format for it in inputs.genes], ["package log", "package log"])
             climb.tried(inputs, Cost(0, 1.0 + place, 2**23, 1000, 0, ""))
+
+    def test_what_was_found_can_be_made_again(self) -> None:
+        for line in FOUND.read_text(encoding="utf-8").splitlines():
+            with self.subTest(line):
+                inputs = inputs_of(line)
+                self.assertEqual(inputs.text(), line)
+                self.assertIsNotNone(cost(inputs, SIZE, 20))
 
 
 if __name__ == "__main__":
