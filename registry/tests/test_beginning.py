@@ -1,6 +1,7 @@
 """A registry that is begun by one command: its key, and the operator log by it."""
 
 import pathlib
+import sqlite3
 import subprocess
 import sys
 import tempfile
@@ -19,6 +20,7 @@ from weoldrin_registry.registry import Registry
 from weoldrin_registry.settings import BadSettings, Settings
 from weoldrin_registry.signing import new_key, signer_in
 from weoldrin_registry.storage.opening import opened
+from weoldrin_registry.storage.sqlite import SqliteStorage
 
 from .served import Client, Key, Process, checkpoint_of, next_record
 
@@ -140,6 +142,19 @@ class Beginning(unittest.TestCase):
         self.addCleanup(registry.stop)
         self.assertTrue(registry.checkpoints.may_sign())
 
+    def test_others_turn_the_journal(self) -> None:
+        """It is tried again, and what still stays locked is told."""
+        locked = sqlite3.OperationalError("database is locked")
+        with tempfile.TemporaryDirectory() as folder:
+            storage = SqliteStorage(pathlib.Path(folder, "new.db"), 0.05)
+            self.addCleanup(storage.close)
+            file = mock.Mock()
+            file.execute.side_effect = [locked, None]
+            storage._journal(file)
+            self.assertEqual(file.execute.call_count, 2)
+            file.execute.side_effect = locked
+            self.assertRaises(sqlite3.OperationalError, storage._journal, file)
+
     def test_overtaken(self) -> None:
         """A key or a log that comes between the look and the making stays as it is."""
         new_key(self.key)
@@ -152,7 +167,6 @@ class Beginning(unittest.TestCase):
                 begin_new(self._settings())
         self.assertEqual((self._head(), self.key.read_bytes()), (head, pem))
         self.assertRaises(Problem, begin, self._settings())
-
 
     def test_refused(self) -> None:
         """A record that is refused otherwise is a failure."""

@@ -5,6 +5,7 @@ from __future__ import annotations
 import pathlib
 import sqlite3
 import threading
+import time
 from collections.abc import Callable, Iterator
 from contextlib import contextmanager
 
@@ -212,11 +213,23 @@ class SqliteStorage:
             )
             with self._guard:
                 self._files.append(found)
-            found.execute("PRAGMA journal_mode = WAL")
+            self._journal(found)
             found.execute("PRAGMA synchronous = FULL")
             found.execute("PRAGMA foreign_keys = ON")
             self._threads.file = found
         return found
+
+    def _journal(self, file: sqlite3.Connection) -> None:
+        """Turns the journal to WAL. Where others do so at once, SQLite says that the file is locked without waiting."""
+        end = time.monotonic() + self._lock_seconds
+        while True:
+            try:
+                file.execute("PRAGMA journal_mode = WAL")
+                return
+            except sqlite3.OperationalError as error:
+                if not isinstance(_told(error), Locked) or time.monotonic() >= end:
+                    raise
+                time.sleep(0.01)
 
 
 @contextmanager
