@@ -22,3 +22,4 @@ pub mod PartsRead
 pub mod NextMembers
 pub mod MemberTokens
 pub mod CanonicalTexts
+pub mod ShortNumbers
