@@ -5,3 +5,4 @@ pub mod BackLemmas
 pub mod ReadLemmas
 pub mod LineLemmas
 pub mod JsonLemmas
+pub mod SignLemmas

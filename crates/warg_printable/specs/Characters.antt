@@ -30,6 +30,10 @@ is_hidden c = is_control c || is_separator c || is_mark c || is_noncharacter c
 abbrev pub backslash : ℕ
 backslash = 92
 
+-- whether a byte is a sign of ASCII, from the space to the tilde
+abbrev pub is_sign : ℕ → Bool
+is_sign c = is_from 32 126 c
+
 -- `\u{..}`: the number in lower-case hex digits, with no leading zero
 abbrev pub number_escape : ℕ → List ℕ
 number_escape c = backslash ∷ 117 ∷ 123 ∷ (digits 16 false c ++ 125 ∷ [])

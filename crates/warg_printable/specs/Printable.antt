@@ -2,7 +2,7 @@
 use Rattle.std.specs.Prelude.{◌==◌, ◌||◌, ◌&&◌, ℕ, Bool, false, true, if◌then◌else◌, List, [], ◌∷◌}
 use Rattle.std.specs.List.{flat_map}
 use Rattle.std.specs.Str.{NoCharPasses, chars, encode_utf8_all}
-use Rattle.warg_printable.specs.Characters.{backslash, is_hidden, number_escape}
+use Rattle.warg_printable.specs.Characters.{backslash, is_hidden, is_sign, number_escape}
 
 -- whether a character is written by its number: a hidden one, and a space if that is wanted
 abbrev pub is_numbered : Bool → ℕ → Bool
@@ -34,3 +34,7 @@ IsPrintable text = NoCharPasses is_hidden text
 -- whether a character is printed otherwise than as itself
 abbrev pub is_escaped : Bool → ℕ → Bool
 is_escaped spaces c = is_numbered spaces c || c == backslash
+
+-- whether a byte is a sign of ASCII that is printed as it is
+abbrev pub is_plain : ℕ → Bool
+is_plain c = is_sign c && (if c == backslash then false else true)

@@ -1,8 +1,9 @@
 //! Which characters are printed as they are.
 
 ghost use Rattle.std.specs.Prelude.{◌≡◌};
-ghost use Rattle.warg_printable.specs.Characters.{is_control, is_from, is_hidden, is_mark, is_noncharacter, is_separator};
-ghost use Rattle.warg_printable.specs.Printable.{is_numbered};
+ghost use Rattle.std.specs.List.{list_all};
+ghost use Rattle.warg_printable.specs.Characters.{is_control, is_from, is_hidden, is_mark, is_noncharacter, is_separator, is_sign};
+ghost use Rattle.warg_printable.specs.Printable.{is_numbered, is_plain};
 
 // Whether the character is one from low to high.
 fn is_from(low: u32, high: u32, c: u32) -> bool
@@ -56,4 +57,32 @@ pub(crate) fn is_numbered(spaces: bool, c: u32) -> bool
     ensures { result ≡ is_numbered spaces c }
 {
     is_hidden(c) || (spaces && c == 32)
+}
+
+// Whether the byte is a sign of ASCII.
+fn is_sign(byte: u8) -> bool
+    ensures { result ≡ is_sign byte }
+{
+    32 <= byte && byte <= 126
+}
+
+// Whether the byte is a sign of ASCII that is printed as it is.
+fn is_plain(byte: u8) -> bool
+    ensures { result ≡ is_plain byte }
+{
+    is_sign(byte) && byte != b'\\'
+}
+
+/// Whether all bytes are signs of ASCII.
+pub(crate) fn are_signs(bytes: &[u8]) -> bool
+    ensures { result ≡ list_all is_sign bytes.now }
+{
+    bytes.iter().all(|byte| is_sign(*byte))
+}
+
+/// Whether all bytes are signs of ASCII that are printed as they are.
+pub(crate) fn are_plain(bytes: &[u8]) -> bool
+    ensures { result ≡ list_all is_plain bytes.now }
+{
+    bytes.iter().all(|byte| is_plain(*byte))
 }

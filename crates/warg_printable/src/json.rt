@@ -5,7 +5,7 @@ ghost use Rattle.std.specs.Char.{digit_char};
 ghost use Rattle.std.specs.Str.{encode_utf8_all};
 ghost use Rattle.warg_printable.specs.Json.{json_char, json_escape, json_printable, unit_escape};
 
-use crate::characters::is_hidden;
+use crate::characters::{are_signs, is_hidden};
 use std::alloc::{AllocError, Global};
 
 // Appends a hex digit.
@@ -58,9 +58,13 @@ fn push_char(c: char, json: &mut String) -> Result<(), AllocError>
 
 /// The JSON text as it is printed: `\uXXXX` stands for each hidden character, which says the same in a string of JSON,
 /// and no such character stands elsewhere in JSON that has no white space.
+#[tactic(auto, using(crate::proofs::SignLemmas::signs_stay_in_json))]
 pub fn json_printed(alloc: Global, text: &str) -> Result<String, AllocError>
     ensures { IfOk result (λ json. string_bytes json ≡ json_printable text.now) }
 {
+    if are_signs(text.as_bytes()) {
+        return String::from_str(alloc, text);
+    }
     let mut json = String::new(alloc);
     let mut rest = text.chars();
     while let Some(c) = rest.next() {

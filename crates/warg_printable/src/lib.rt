@@ -9,4 +9,4 @@ mod shown;
 
 pub use json::json_printed;
 pub use read::unprinted;
-pub use shown::{Printable, printed, printed_line};
+pub use shown::{Printable, printed, printed_line, push_printed_line};

@@ -1,12 +1,12 @@
 //! A text as it is printed.
 
-ghost use Rattle.std.specs.Prelude.{◌≡◌, ◌++◌, IfOk, codes, string_bytes};
+ghost use Rattle.std.specs.Prelude.{◌≡◌, ◌++◌, IfOk, OnOk, codes, string_bytes};
 ghost use Rattle.std.specs.Fmt.{WritesOnOk, WritesStyledOnOk};
 ghost use Rattle.std.specs.Str.{encode_utf8_all};
 ghost use Rattle.warg_printable.specs.Characters.{number_escape};
 ghost use Rattle.warg_printable.specs.Printable.{printable, shown_char};
 
-use crate::characters::is_numbered;
+use crate::characters::{are_plain, is_numbered};
 use std::alloc::{AllocError, Global};
 use std::fmt;
 use std::fmt::{InlineText, Write};
@@ -78,13 +78,35 @@ pub fn printed(alloc: Global, text: &str) -> Result<String, AllocError>
     shown.to_string(alloc)
 }
 
-/// The same, with a line feed behind it.
-pub fn printed_line(alloc: Global, text: &str) -> Result<String, AllocError>
-    ensures { IfOk result (λ line. string_bytes line ≡ printable text.now ++ codes "\n") }
+// Appends the text as it is printed.
+#[tactic(auto, using(crate::proofs::SignLemmas::plain_text_stays))]
+fn push_printed(text: &str, shown: &mut String) -> Result<(), AllocError>
+    ensures { OnOk result (string_bytes shown.new ≡ string_bytes shown.old ++ printable text.now) }
 {
-    let shown = Printable {
+    if are_plain(text.as_bytes()) {
+        return shown.push_str(text);
+    }
+    let escaped = Printable {
         text,
         spaces: false,
     };
-    format!(in alloc; "{shown}\n")
+    write!(shown, "{escaped}")
+}
+
+/// Appends the text as it is printed, and a line feed.
+pub fn push_printed_line(text: &str, shown: &mut String) -> Result<(), AllocError>
+    ensures { OnOk result (string_bytes shown.new ≡ string_bytes shown.old ++
+        (printable text.now ++ codes "\n")) }
+{
+    push_printed(text, shown)?;
+    shown.push_str("\n")
+}
+
+/// The text as it is printed, and a line feed.
+pub fn printed_line(alloc: Global, text: &str) -> Result<String, AllocError>
+    ensures { IfOk result (λ line. string_bytes line ≡ printable text.now ++ codes "\n") }
+{
+    let mut line = String::new(alloc);
+    push_printed_line(text, &mut line)?;
+    Ok(line)
 }
