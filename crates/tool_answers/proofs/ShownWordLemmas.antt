@@ -3,7 +3,7 @@ use Rattle.std.proofs.Common.{◌≡◌, ◌<◌, ◌+◌, ℕ, suc, List, [], �
 use Rattle.std.proofs.Math.Seq.{take-suc}
 use Rattle.std.proofs.lemmas.List.{map-append}
 use Rattle.warg_protocol.specs.Package.{ReleaseView}
-use Rattle.tool_answers.specs.ShownWords.{AreReleaseLines, IsReleaseLine, after_commas, after_spaces}
+use Rattle.tool_answers.specs.ShownWords.{AreReleaseLines, IsReleaseLine, after_commas, after_spaces, record_line}
 
 -- ---- words
 
@@ -28,19 +28,32 @@ module _ {X : Type 0} (text_of : X → List ℕ) (xs : List X) (n : ℕ) where
       ∙ ap (λ it. map text_of (take n xs) ++ text_of it ∷ []) (sym is))
 
   -- one text more, behind a space and behind a comma
-  pub after_spaces_more : (x : X) (text word new : List ℕ) → n < length xs → x ≡ slice_index_or xs n x
-      → text ≡ after_spaces (map text_of (take n xs)) → new ≡ text ++ (codes " " ++ word) → word ≡ text_of x
-      → new ≡ after_spaces (map text_of (take (n + 1) xs))
-  after_spaces_more x text word new low is so_far more said =
-      more ∙ ap (λ t. t ++ (codes " " ++ word)) so_far ∙ ap (λ w. after_spaces (map text_of (take n xs)) ++ (codes " " ++ w)) said
-      ∙ sym (ap after_spaces (taken_texts x low is) ∙ after_spaces-append (map text_of (take n xs)) (text_of x))
+  pub after_spaces_more : (x : X) (old text word new : List ℕ) → n < length xs → x ≡ slice_index_or xs n x
+      → text ≡ old ++ after_spaces (map text_of (take n xs)) → new ≡ text ++ (codes " " ++ word) → word ≡ text_of x
+      → new ≡ old ++ after_spaces (map text_of (take (n + 1) xs))
+  after_spaces_more x old text word new low is so_far more said =
+      let begun = after_spaces (map text_of (take n xs)) in
+      more ∙ ap (λ t. t ++ (codes " " ++ word)) so_far ∙ append_assoc old begun (codes " " ++ word)
+      ∙ ap (λ w. old ++ (begun ++ (codes " " ++ w))) said
+      ∙ sym (ap (λ texts. old ++ after_spaces texts) (taken_texts x low is)
+      ∙ ap (λ t. old ++ t) (after_spaces-append (map text_of (take n xs)) (text_of x)))
 
-  pub after_commas_more : (x : X) (text word new : List ℕ) → n < length xs → x ≡ slice_index_or xs n x
-      → text ≡ after_commas (map text_of (take n xs)) → new ≡ text ++ (codes ", " ++ word) → word ≡ text_of x
-      → new ≡ after_commas (map text_of (take (n + 1) xs))
-  after_commas_more x text word new low is so_far more said =
-      more ∙ ap (λ t. t ++ (codes ", " ++ word)) so_far ∙ ap (λ w. after_commas (map text_of (take n xs)) ++ (codes ", " ++ w)) said
-      ∙ sym (ap after_commas (taken_texts x low is) ∙ after_commas-append (map text_of (take n xs)) (text_of x))
+  pub after_commas_more : (x : X) (old text word new : List ℕ) → n < length xs → x ≡ slice_index_or xs n x
+      → text ≡ old ++ after_commas (map text_of (take n xs)) → new ≡ text ++ (codes ", " ++ word) → word ≡ text_of x
+      → new ≡ old ++ after_commas (map text_of (take (n + 1) xs))
+  after_commas_more x old text word new low is so_far more said =
+      let begun = after_commas (map text_of (take n xs)) in
+      more ∙ ap (λ t. t ++ (codes ", " ++ word)) so_far ∙ append_assoc old begun (codes ", " ++ word)
+      ∙ ap (λ w. old ++ (begun ++ (codes ", " ++ w))) said
+      ∙ sym (ap (λ texts. old ++ after_commas texts) (taken_texts x low is)
+      ∙ ap (λ t. old ++ t) (after_commas-append (map text_of (take n xs)) (text_of x)))
+
+-- a time, a signer and entries, put together one by one
+pub record_joined : (old time id entries signed new key_id : List ℕ) → signed ≡ old ++ (time ++ (codes " " ++ key_id)) → key_id ≡ id
+    → new ≡ signed ++ entries → new ≡ old ++ record_line time id entries
+record_joined old time id entries signed new key_id begun same ended =
+    ended ∙ ap (λ t. t ++ entries) begun ∙ append_assoc old (time ++ (codes " " ++ key_id)) entries
+    ∙ ap (λ t. old ++ t) (append_assoc time (codes " " ++ key_id) entries) ∙ ap (λ k. old ++ record_line time k entries) same
 
 -- ---- releases
 

@@ -22,6 +22,12 @@ use Rattle.warg_log_records.specs.OperatorEntries.{DefineNamespace, ImportNamesp
 use Rattle.warg_log_records.specs.PackageEntries.{Release, Yank}
 use Rattle.warg_log_records.specs.RecordData.{GrantFlat, Init, Own, RevokeFlat, Shared}
 
+-- ---- texts
+
+-- the new text is the old one, and behind it what P holds of
+abbrev pub IsGrownBy : (List ℕ → Type 0) → List ℕ → List ℕ → Type 0
+IsGrownBy P old new = (more : List ℕ) × P more × (new ≡ old ++ more)
+
 -- ---- times
 
 -- the date and the time of day that a clock at UTC shows then

@@ -1,14 +1,14 @@
 //! What the commands ask of a kind of log.
 
 ghost use Rattle.std.specs.Prelude.{◌≡◌, ℕ, Bool, Contains, List, Result, Ok, IfNone};
-ghost use Rattle.std.specs.Prelude.{IfOk, IfSome, is_some, string_bytes, true};
+ghost use Rattle.std.specs.Prelude.{IfOk, IfSome, OnOk, is_some, string_bytes, true};
 ghost use Rattle.warg_protocol.specs.Json.{JsonError as OfJsonError, JsonTextError as OfJsonTextError};
 ghost use Rattle.warg_protocol.specs.Json.{ReturnsOrNoMemory};
 ghost use Rattle.warg_protocol.specs.Logs.{EnvelopeData, ContentsMatchBytes};
 ghost use Rattle.warg_saved_states.specs.JsonText.{ReturnsOfText};
 ghost use Rattle.tool_answers.specs.Explanations.{HoldsFirst};
 ghost use Rattle.tool_answers.specs.KeyIds.{AreIdsOf};
-ghost use Rattle.tool_answers.specs.ShownWords.{IsRecordLine, IsTimeText, RecordWords};
+ghost use Rattle.tool_answers.specs.ShownWords.{IsGrownBy, IsRecordLine, IsTimeText, RecordWords};
 ghost use Rattle.tool_answers.specs.Tools.{ToolOf};
 
 use std::alloc::{AllocError, Global};
@@ -85,13 +85,15 @@ pub trait ToolLog: Report {
         ensures { IfOk result (λ text.
             IsTimeText (words_of record.now).time (string_bytes text)) };
 
-    /// What is said of a record: its time, its signer, and its entries in words.
-    fn record_line(
+    /// Appends what is said of a record: its time, its signer, and its entries in words.
+    fn push_record(
         alloc: Global,
         envelope: &ProtoEnvelope<Self::Record>,
-    ) -> Result<String, AllocError>
-        ensures { IfOk result (λ line. IsRecordLine envelope.now.envelope.key_id
-            (words_of envelope.now.contents) (string_bytes line)) };
+        text: &mut String,
+    ) -> Result<(), AllocError>
+        ensures { OnOk result (IsGrownBy
+            (IsRecordLine envelope.now.envelope.key_id (words_of envelope.now.contents))
+            (string_bytes text.old) (string_bytes text.new)) };
 
     /// The record with so many of its first entries, in an envelope of the same signer. None where that record would not
     /// read back as it is written; one that was read does.
@@ -105,11 +107,12 @@ pub trait ToolLog: Report {
         ensures found { ContentsMatchBytes Self.Record.read Self.Record.meaning envelope.now →
             IfOk result (λ found. is_some found ≡ true) };
 
-    /// A line for each key, and for each release or namespace.
-    fn state_text(&self, alloc: Global) -> Result<String, AllocError>
+    /// Appends a line for each key, and for each release or namespace.
+    fn push_state(&self, alloc: Global, text: &mut String) -> Result<(), AllocError>
         ensures { (records : List EnvelopeData) →
             Self.Validator.view self.now ≡ Self.Validator.kind.view_of records →
-            IfOk result (λ text. shows records (string_bytes text)) };
+            OnOk result (IsGrownBy (shows records)
+            (string_bytes text.old) (string_bytes text.new)) };
 
     // A record has the words that the content bytes say that say it.
     ghost says_its_words: { (r : Self.Record) (content : List ℕ) →

@@ -1,17 +1,17 @@
 //! What the commands say of operator logs.
 
-ghost use Rattle.std.specs.Prelude.{◌≡◌, string_bytes, IfOk};
+ghost use Rattle.std.specs.Prelude.{◌≡◌, ◌++◌, string_bytes, IfOk, OnOk};
 ghost use Rattle.warg_protocol.specs.Operator.{namespace_view};
 ghost use Rattle.tool_answers.specs.ShownWords.{namespace_line, namespace_lines, namespace_words};
 
 use crate::key_ids::key_ids;
 use crate::kind::ToolLog;
 use crate::reencoded::reencode;
-use crate::wording::{EntryWords, key_lines, permission_words, record_line, time_words};
+use crate::wording::{EntryWords, push_key_lines, push_permissions, push_record, time_words};
 use std::alloc::{AllocError, Global};
 use warg_log_records::laws::equality;
 use warg_permissions::LogPermission;
-use warg_printable::printed_line;
+use warg_printable::push_printed_line;
 use warg_protocol::operator::{
     LogState, NamespaceState, Namespaces, OperatorEntry, OperatorRecord, Permission,
     ValidationError,
@@ -25,27 +25,25 @@ impl EntryWords for OperatorEntry {
 
     ghost words_of = { λ entry. operator_entry_words (entry_data entry) };
 
-    fn words(&self, alloc: Global) -> Result<String, AllocError> {
+    fn push_words(&self, text: &mut String) -> Result<(), AllocError> {
         match self {
-            OperatorEntry::Init { key, .. } => format!(in alloc; "init {key}"),
+            OperatorEntry::Init { key, .. } => write!(text, "init {key}"),
             OperatorEntry::GrantFlat { key, permissions } => {
-                let permissions = permission_words(alloc, permissions.as_slice())?;
-                format!(in alloc; "grant {key}{permissions}")
+                write!(text, "grant {key}")?;
+                push_permissions(permissions.as_slice(), text)
             }
             OperatorEntry::RevokeFlat {
                 key_id,
                 permissions,
             } => {
-                let permissions = permission_words(alloc, permissions.as_slice())?;
-                format!(in alloc; "revoke {key_id}{permissions}")
+                write!(text, "revoke {key_id}")?;
+                push_permissions(permissions.as_slice(), text)
             }
-            OperatorEntry::DefineNamespace { namespace } => {
-                format!(in alloc; "define {namespace}")
-            }
+            OperatorEntry::DefineNamespace { namespace } => write!(text, "define {namespace}"),
             OperatorEntry::ImportNamespace {
                 namespace,
                 registry,
-            } => format!(in alloc; "import {namespace} {registry}"),
+            } => write!(text, "import {namespace} {registry}"),
         }
     }
 }
@@ -63,25 +61,33 @@ fn namespace_words(alloc: Global, name: &str, state: &NamespaceState) -> Result<
     }
 }
 
-// The line of a namespace.
-fn namespace_line(alloc: Global, name: &str, state: &NamespaceState) -> Result<String, AllocError>
-    ensures { IfOk result (λ line. string_bytes line ≡
+// Appends the line of a namespace.
+fn push_namespace_line(
+    alloc: Global,
+    name: &str,
+    state: &NamespaceState,
+    text: &mut String,
+) -> Result<(), AllocError>
+    ensures { OnOk result (string_bytes text.new ≡ string_bytes text.old ++
         namespace_line name.now (namespace_view state.now)) }
 {
     let said = namespace_words(alloc, name, state)?;
-    printed_line(alloc, said.as_str())
+    push_printed_line(said.as_str(), text)
 }
 
-// A line for each namespace.
-fn namespace_lines(alloc: Global, namespaces: Namespaces<'_>) -> Result<String, AllocError>
-    ensures { IfOk result (λ text. string_bytes text ≡ namespace_lines namespaces.entry) }
+// Appends a line for each namespace.
+fn push_namespace_lines(
+    alloc: Global,
+    namespaces: Namespaces<'_>,
+    text: &mut String,
+) -> Result<(), AllocError>
+    ensures { OnOk result (string_bytes text.new ≡ string_bytes text.old ++
+        namespace_lines namespaces.entry) }
 {
-    let mut text = String::new(alloc);
     for (name, state) in namespaces {
-        let line = namespace_line(alloc, name, state)?;
-        text.push_str(line.as_str())?;
+        push_namespace_line(alloc, name, state, text)?;
     }
-    Ok(text)
+    Ok(())
 }
 
 impl ToolLog for LogState {
@@ -156,11 +162,12 @@ impl ToolLog for LogState {
         time_words(alloc, record.timestamp)
     }
 
-    fn record_line(
+    fn push_record(
         alloc: Global,
         envelope: &ProtoEnvelope<OperatorRecord>,
-    ) -> Result<String, AllocError> {
-        record_line(alloc, envelope)
+        text: &mut String,
+    ) -> Result<(), AllocError> {
+        push_record(alloc, envelope, text)
     }
 
     fn first_entries(
@@ -175,11 +182,9 @@ impl ToolLog for LogState {
         reencode(alloc, &record, content, envelope)
     }
 
-    fn state_text(&self, alloc: Global) -> Result<String, AllocError> {
-        let mut text = key_lines(alloc, self.keys())?;
-        let namespaces = namespace_lines(alloc, self.namespaces())?;
-        text.push_str(namespaces.as_str())?;
-        Ok(text)
+    fn push_state(&self, alloc: Global, text: &mut String) -> Result<(), AllocError> {
+        push_key_lines(alloc, self.keys(), text)?;
+        push_namespace_lines(alloc, self.namespaces(), text)
     }
 
     ghost says_its_words = { λ it content e. (

@@ -1,15 +1,15 @@
 //! What the commands say of package logs.
 
-ghost use Rattle.std.specs.Prelude.{◌≡◌, string_bytes, IfOk};
+ghost use Rattle.std.specs.Prelude.{◌≡◌, string_bytes, IfOk, OnOk};
 ghost use Rattle.semver.specs.Identifiers.{parts_of, parts_text};
 ghost use Rattle.warg_protocol.specs.Package.{release_view};
-ghost use Rattle.tool_answers.specs.ShownWords.{AreReleaseLines, IsReleaseLine, IsStandingLine};
+ghost use Rattle.tool_answers.specs.ShownWords.{AreReleaseLines, IsGrownBy, IsReleaseLine, IsStandingLine};
 ghost use Rattle.tool_answers.specs.ShownWords.{released_line, yanked_line};
 
 use crate::key_ids::key_ids;
 use crate::kind::ToolLog;
 use crate::reencoded::reencode;
-use crate::wording::{EntryWords, key_lines, permission_words, record_line, time_words};
+use crate::wording::{EntryWords, push_key_lines, push_permissions, push_record, time_words};
 use std::alloc::{AllocError, Global};
 use warg_log_records::laws::equality;
 use warg_permissions::LogPermission;
@@ -28,24 +28,24 @@ impl EntryWords for PackageEntry {
 
     ghost words_of = { λ entry. package_entry_words (entry_data entry) };
 
-    fn words(&self, alloc: Global) -> Result<String, AllocError> {
+    fn push_words(&self, text: &mut String) -> Result<(), AllocError> {
         match self {
-            PackageEntry::Init { key, .. } => format!(in alloc; "init {key}"),
+            PackageEntry::Init { key, .. } => write!(text, "init {key}"),
             PackageEntry::GrantFlat { key, permissions } => {
-                let permissions = permission_words(alloc, permissions.as_slice())?;
-                format!(in alloc; "grant {key}{permissions}")
+                write!(text, "grant {key}")?;
+                push_permissions(permissions.as_slice(), text)
             }
             PackageEntry::RevokeFlat {
                 key_id,
                 permissions,
             } => {
-                let permissions = permission_words(alloc, permissions.as_slice())?;
-                format!(in alloc; "revoke {key_id}{permissions}")
+                write!(text, "revoke {key_id}")?;
+                push_permissions(permissions.as_slice(), text)
             }
             PackageEntry::Release { version, content } => {
-                format!(in alloc; "release {version} {content}")
+                write!(text, "release {version} {content}")
             }
-            PackageEntry::Yank { version } => format!(in alloc; "yank {version}"),
+            PackageEntry::Yank { version } => write!(text, "yank {version}"),
         }
     }
 }
@@ -98,16 +98,20 @@ fn release_line(alloc: Global, release: &Release) -> Result<String, AllocError>
     standing_line(alloc, &release.version, &release.state)
 }
 
-// A line for each release.
-fn release_lines(alloc: Global, releases: Releases<'_>) -> Result<String, AllocError>
-    ensures { IfOk result (λ text. AreReleaseLines releases.entry (string_bytes text)) }
+// Appends a line for each release.
+fn push_release_lines(
+    alloc: Global,
+    releases: Releases<'_>,
+    text: &mut String,
+) -> Result<(), AllocError>
+    ensures { OnOk result (IsGrownBy (AreReleaseLines releases.entry)
+        (string_bytes text.old) (string_bytes text.new)) }
 {
-    let mut text = String::new(alloc);
     for release in releases {
         let line = release_line(alloc, release)?;
         text.push_str(line.as_str())?;
     }
-    Ok(text)
+    Ok(())
 }
 
 impl ToolLog for LogState {
@@ -181,11 +185,12 @@ impl ToolLog for LogState {
         time_words(alloc, record.timestamp)
     }
 
-    fn record_line(
+    fn push_record(
         alloc: Global,
         envelope: &ProtoEnvelope<PackageRecord>,
-    ) -> Result<String, AllocError> {
-        record_line(alloc, envelope)
+        text: &mut String,
+    ) -> Result<(), AllocError> {
+        push_record(alloc, envelope, text)
     }
 
     fn first_entries(
@@ -200,11 +205,9 @@ impl ToolLog for LogState {
         reencode(alloc, &record, content, envelope)
     }
 
-    fn state_text(&self, alloc: Global) -> Result<String, AllocError> {
-        let mut text = key_lines(alloc, self.keys())?;
-        let releases = release_lines(alloc, self.releases())?;
-        text.push_str(releases.as_str())?;
-        Ok(text)
+    fn push_state(&self, alloc: Global, text: &mut String) -> Result<(), AllocError> {
+        push_key_lines(alloc, self.keys(), text)?;
+        push_release_lines(alloc, self.releases(), text)
     }
 
     ghost says_its_words = { λ it content e. (

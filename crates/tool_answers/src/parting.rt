@@ -2,7 +2,7 @@
 
 ghost use Rattle.std.specs.Prelude.{◌≡◌, ◌<◌, [], All, IfOk, length, slice_index_or, string_bytes};
 ghost use Rattle.warg_protocol.specs.Logs.{ContentsMatchBytes, contents, envelopes};
-ghost use Rattle.tool_answers.specs.Texts.{IsNamedLine, collision_line, fork_line, named_line};
+ghost use Rattle.tool_answers.specs.Texts.{IsNamedLine, collision_line, fork_line};
 
 use crate::kind::ToolLog;
 use std::alloc::{AllocError, Global};
@@ -50,14 +50,6 @@ pub fn collision_text<L: ToolLog>(
     format!(in alloc; "collision {here} {there} {id}\n")
 }
 
-// What is said of a record, on a line behind the name of its log.
-fn named_line(alloc: Global, name: &str, said: &str) -> Result<String, AllocError>
-    ensures { IfOk result (λ line. string_bytes line ≡ named_line name.now said.now) }
-{
-    let said = format!(in alloc; "{name} {said}")?;
-    printed_line(alloc, said.as_str())
-}
-
 /// The line of the record at a place of a log of this name: when and by whom it was signed, and its entries.
 pub fn record_of_side<L: ToolLog>(
     alloc: Global,
@@ -70,6 +62,7 @@ pub fn record_of_side<L: ToolLog>(
     ensures { IfOk result (λ text. IsNamedLine L.says_words name.now (envelopes records.now)
         place (string_bytes text)) }
 {
-    let said = L::record_line(alloc, &records[place])?;
-    named_line(alloc, name, said.as_str())
+    let mut said = format!(in alloc; "{name} ")?;
+    L::push_record(alloc, &records[place], &mut said)?;
+    printed_line(alloc, said.as_str())
 }

@@ -1,16 +1,16 @@
 //! Words that both kinds of log are shown in.
 
-ghost use Rattle.std.specs.Prelude.{◌≡◌, [], ◌∷◌, ◌++◌, codes, true, IfOk, IfSome, OnOk, map, string_bytes, unwrap_or};
+ghost use Rattle.std.specs.Prelude.{◌≡◌, [], ◌∷◌, ◌++◌, codes, IfOk, OnOk, map, string_bytes, unwrap_or};
 ghost use Rattle.std.specs.Option.{option_map};
 ghost use Rattle.jiff.specs.Words.{iso_datetime_text};
-ghost use Rattle.tool_answers.specs.ShownWords.{after_commas, IsRecordLine, IsTimeText, key_line};
-ghost use Rattle.tool_answers.specs.ShownWords.{key_lines, comma_list, record_line, after_spaces};
+ghost use Rattle.tool_answers.specs.ShownWords.{IsGrownBy, IsRecordLine, IsTimeText, after_commas};
+ghost use Rattle.tool_answers.specs.ShownWords.{after_spaces, comma_list, key_line, key_lines};
 
 use jiff::civil::DateTime;
 use jiff::tz::Offset;
 use std::alloc::{AllocError, Global};
 use warg_permissions::LogPermission;
-use warg_printable::printed_line;
+use warg_printable::push_printed_line;
 use warg_protocol::package::{KeyEntry, Keys};
 use warg_protocol::signing::KeyID;
 use warg_protocol::{IndexSet, LogRecord, ProtoEnvelope, Timestamp};
@@ -22,18 +22,10 @@ pub(crate) trait EntryWords {
     // The words.
     ghost words_of: { Self → List ℕ };
 
-    /// The entry in words.
-    fn words(&self, alloc: Global) -> Result<String, AllocError>
-        ensures { IfOk result (λ text. string_bytes text ≡ words_of self.now) };
-}
-
-// Appends the words behind a sign.
-fn append_behind(sign: &str, words: &str, text: &mut String) -> Result<(), AllocError>
-    ensures { OnOk result (string_bytes text.new ≡ string_bytes text.old ++
-        (sign.now ++ words.now)) }
-{
-    text.push_str(sign)?;
-    text.push_str(words)
+    /// Appends the entry in words.
+    fn push_words(&self, text: &mut String) -> Result<(), AllocError>
+        ensures { OnOk result (string_bytes text.new ≡ string_bytes text.old ++
+            words_of self.now) };
 }
 
 // A date and a time of day at UTC, as RFC 3339 says them.
@@ -53,121 +45,139 @@ pub fn time_words(alloc: Global, time: Timestamp) -> Result<String, AllocError>
     }
 }
 
-/// The texts of permissions, a space before each.
-pub(crate) fn permission_words<P: LogPermission>(
-    alloc: Global,
+// Appends the words behind a space.
+fn push_behind_space(words: &str, text: &mut String) -> Result<(), AllocError>
+    ensures { OnOk result (string_bytes text.new ≡ string_bytes text.old ++
+        (codes " " ++ words.now)) }
+{
+    text.push_str(" ")?;
+    text.push_str(words)
+}
+
+/// Appends the texts of permissions, a space before each.
+pub(crate) fn push_permissions<P: LogPermission>(
     permissions: &[P],
-) -> Result<String, AllocError>
-    ensures { IfOk result (λ text. string_bytes text ≡
+    text: &mut String,
+) -> Result<(), AllocError>
+    ensures { OnOk result (string_bytes text.new ≡ string_bytes text.old ++
         after_spaces (map P.text_of permissions.now)) }
 {
-    let mut text = String::new(alloc);
     for permission in permissions {
-        append_behind(" ", permission.as_text(), &mut text)?;
+        push_behind_space(permission.as_text(), text)?;
     }
-    Ok(text)
+    Ok(())
 }
 
-// The words of entries, a comma and a space before each.
-fn later_words<E: EntryWords>(alloc: Global, entries: &[E]) -> Result<String, AllocError>
-    ensures { IfOk result (λ text. string_bytes text ≡ after_commas (map E.words_of entries.now)) }
+// Appends the words of an entry behind a comma and a space.
+fn push_behind_comma<E: EntryWords>(entry: &E, text: &mut String) -> Result<(), AllocError>
+    ensures { OnOk result (string_bytes text.new ≡ string_bytes text.old ++
+        (codes ", " ++ E.words_of entry.now)) }
 {
-    let mut text = String::new(alloc);
-    for entry in entries {
-        let words = entry.words(alloc)?;
-        append_behind(", ", words.as_str(), &mut text)?;
-    }
-    Ok(text)
+    text.push_str(", ")?;
+    entry.push_words(text)
 }
 
-// The words of an entry and of those after it in a list, behind a space.
-fn listed_words<E: EntryWords>(alloc: Global, first: &E, later: &[E]) -> Result<String, AllocError>
-    ensures { IfOk result (λ text. string_bytes text ≡
+// Appends the words of entries, a comma and a space before each.
+fn push_later<E: EntryWords>(entries: &[E], text: &mut String) -> Result<(), AllocError>
+    ensures { OnOk result (string_bytes text.new ≡ string_bytes text.old ++
+        after_commas (map E.words_of entries.now)) }
+{
+    for entry in entries {
+        push_behind_comma(entry, text)?;
+    }
+    Ok(())
+}
+
+// Appends the words of an entry and of those after it in a list, behind a space.
+fn push_listed<E: EntryWords>(first: &E, later: &[E], text: &mut String) -> Result<(), AllocError>
+    ensures { OnOk result (string_bytes text.new ≡ string_bytes text.old ++
         comma_list (map E.words_of (first.now ∷ later.now))) }
 {
-    let first = first.words(alloc)?;
-    let later = later_words(alloc, later)?;
-    format!(in alloc; " {first}{later}")
+    text.push_str(" ")?;
+    first.push_words(text)?;
+    push_later(later, text)
 }
 
-// The words of entries in a list, behind a space.
-fn entry_words<E: EntryWords>(alloc: Global, entries: &[E]) -> Result<String, AllocError>
-    ensures { IfOk result (λ text. string_bytes text ≡ comma_list (map E.words_of entries.now)) }
+// Appends the words of entries in a list, behind a space.
+fn push_entries<E: EntryWords>(entries: &[E], text: &mut String) -> Result<(), AllocError>
+    ensures { OnOk result (string_bytes text.new ≡ string_bytes text.old ++
+        comma_list (map E.words_of entries.now)) }
 {
     match entries.split_first() {
-        Some((first, later)) => listed_words(alloc, first, later),
-        None => Ok(String::new(alloc)),
+        Some((first, later)) => push_listed(first, later, text),
+        None => Ok(()),
     }
 }
 
-// What is said of a record by its parts.
-fn joined_line(
-    alloc: Global,
-    time: &str,
-    key_id: &KeyID,
-    entries: &str,
-) -> Result<String, AllocError>
-    ensures { IfOk result (λ line. string_bytes line ≡
-        record_line time.now key_id.now entries.now) }
+// Appends the time of a record and its signer.
+fn push_signer(time: &str, key_id: &KeyID, text: &mut String) -> Result<(), AllocError>
+    ensures { OnOk result (string_bytes text.new ≡ string_bytes text.old ++
+        (time.now ++ (codes " " ++ key_id.now))) }
 {
-    format!(in alloc; "{time} {key_id}{entries}")
+    write!(text, "{time} {key_id}")
 }
 
-/// What is said of a record: its time, its signer, and its entries.
-pub(crate) fn record_line<E: EntryWords>(
+/// Appends what is said of a record: its time, its signer, and its entries.
+pub(crate) fn push_record<E: EntryWords>(
     alloc: Global,
     envelope: &ProtoEnvelope<LogRecord<E>>,
-) -> Result<String, AllocError>
-    ensures { IfOk result (λ line. IsRecordLine envelope.now.envelope.key_id (record {
+    text: &mut String,
+) -> Result<(), AllocError>
+    ensures { OnOk result (IsGrownBy (IsRecordLine envelope.now.envelope.key_id (record {
       time = envelope.now.contents.timestamp;
       entries = map E.words_of envelope.now.contents.entries.items;
-    }) (string_bytes line)) }
+    })) (string_bytes text.old) (string_bytes text.new)) }
 {
     let record = envelope.contents();
     let time = time_words(alloc, record.timestamp)?;
-    let entries = entry_words(alloc, record.entries.as_slice())?;
-    joined_line(alloc, time.as_str(), envelope.key_id(), entries.as_str())
+    push_signer(time.as_str(), envelope.key_id(), text)?;
+    push_entries(record.entries.as_slice(), text)
 }
 
-// The texts of the permissions of a set, a space before each; of no set there are none.
-fn held_words<P: LogPermission>(
-    alloc: Global,
+// Appends the texts of the permissions of a set, a space before each; of no set there are none.
+fn push_held<P: LogPermission>(
     held: Option<&IndexSet<P>>,
-) -> Result<String, AllocError>
-    ensures { IfOk result (λ text. string_bytes text ≡
+    text: &mut String,
+) -> Result<(), AllocError>
+    ensures { OnOk result (string_bytes text.new ≡ string_bytes text.old ++
         after_spaces (map P.text_of (unwrap_or (option_map (λ set. set.now.keys) held.entry) []))) }
 {
     match held {
-        Some(permissions) => permission_words(alloc, permissions.as_slice()),
-        None => Ok(String::new(alloc)),
+        Some(permissions) => push_permissions(permissions.as_slice(), text),
+        None => Ok(()),
     }
 }
 
-// The line of a key: its id, the key, and what it holds.
-fn key_line<P: LogPermission>(alloc: Global, key: KeyEntry<'_, P>) -> Result<String, AllocError>
-    ensures { IfOk result (λ line. string_bytes line ≡ key_line P.text_of (record {
-      id = key.entry.id.now;
-      key = key.entry.key.now;
-      permissions = option_map (λ set. set.now.keys) key.entry.permissions;
-    })) }
+// Appends the line of a key: its id, the key, and what it holds.
+fn push_key_line<P: LogPermission>(
+    alloc: Global,
+    key: KeyEntry<'_, P>,
+    text: &mut String,
+) -> Result<(), AllocError>
+    ensures { OnOk result (string_bytes text.new ≡ string_bytes text.old ++
+        key_line P.text_of (record {
+          id = key.entry.id.now;
+          key = key.entry.key.now;
+          permissions = option_map (λ set. set.now.keys) key.entry.permissions;
+        })) }
 {
     let (id, public_key) = (key.id, key.key);
-    let held = held_words(alloc, key.permissions)?;
-    let said = format!(in alloc; "key {id} {public_key}{held}")?;
-    printed_line(alloc, said.as_str())
+    let mut said = format!(in alloc; "key {id} {public_key}")?;
+    push_held(key.permissions, &mut said)?;
+    push_printed_line(said.as_str(), text)
 }
 
-/// A line for each key.
-pub(crate) fn key_lines<P: LogPermission>(
+/// Appends a line for each key.
+pub(crate) fn push_key_lines<P: LogPermission>(
     alloc: Global,
     keys: Keys<'_, P>,
-) -> Result<String, AllocError>
-    ensures { IfOk result (λ text. string_bytes text ≡ key_lines P.text_of keys.entry) }
+    text: &mut String,
+) -> Result<(), AllocError>
+    ensures { OnOk result (string_bytes text.new ≡ string_bytes text.old ++
+        key_lines P.text_of keys.entry) }
 {
-    let mut text = String::new(alloc);
     for key in keys {
-        let line = key_line(alloc, key)?;
-        text.push_str(line.as_str())?;
+        push_key_line(alloc, key, text)?;
     }
-    Ok(text)
+    Ok(())
 }

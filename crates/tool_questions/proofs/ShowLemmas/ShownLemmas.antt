@@ -1,5 +1,6 @@
 -- Logs in words.
-use Rattle.std.proofs.Common.{◌≡◌, ◌≤◌, ◌<◌, ◌+◌, ℕ, suc, List, [], ◌∷◌, ◌++◌, length, take, slice_index_or, refl, sym, ap, subst, ◌∙◌, append_assoc, append-nil, arith, All, Option, Some, None, Result, Ok, Err, IfOk}
+use Rattle.std.proofs.Common.{codes, ◌≡◌, ◌≤◌, ◌<◌, ◌+◌, ℕ, suc, List, [], ◌∷◌, ◌++◌, length, take, slice_index_or, refl, sym, ap, subst, ◌∙◌, append_assoc, append-nil, arith, All, Option, Some, None, Result, Ok, Err, IfOk}
+use Rattle.std.specs.Fmt.{decimal}
 use Rattle.std.specs.List.{AllByRecursion, AllZip, slice_get}
 use Rattle.std.specs.Option.{option_map}
 use Rattle.std.specs.declared.alloc.AllocError.{AllocError}
@@ -7,7 +8,7 @@ use Rattle.std.proofs.Math.Seq.{take-suc}
 use Rattle.std.proofs.lemmas.List.{length-take-le, take_all}
 use Rattle.std.proofs.lemmas.List.Elements.{recursion_from_All}
 use Rattle.std.proofs.lemmas.Slice.Zip.{AllZip-long}
-use Rattle.warg_protocol.specs.Records.{RecordId}
+use Rattle.warg_protocol.specs.Records.{RecordId, hash_text}
 use Rattle.warg_protocol.specs.Logs.{Cause, DecodedEnvelope, EnvelopeData, EnvelopeFault, HasNoOffence, IfNamed, IsFirstOffence, ContentsMatchBytes, SignatureRelation, envelope_of, envelopes}
 use Rattle.warg_audit.specs.Files.Lines.{inputs_of}
 use Rattle.warg_audit.specs.LogAnswers.{LogDisplay, cause_name}
@@ -16,8 +17,8 @@ use Rattle.warg_audit.specs.declared.files.lines.LineError.TheVariants.{Bad}
 use Rattle.warg_audit.proofs.FilesLemmas.InputLemmas as spelling
 use Rattle.warg_audit.specs.Files.Answers.{IfOutput, output_data}
 use Rattle.tool_questions.specs.Show.Advice.{advice_on}
-use Rattle.tool_questions.specs.Show.ShownLogs.{AreEnvelopeLines, AreRecordLines, IsBehindId, IsCutText, IsLogText, IsRunErrorText, IsShown, IsShownOf, behind_id, cause_words, first_bad, lines_with_places, placed_line, of_log, of_refused, of_inputs}
-use Rattle.tool_answers.specs.ShownWords.{IsLineOf, IsRecordLine, RecordWords}
+use Rattle.tool_questions.specs.Show.ShownLogs.{AreEnvelopeLines, AreRecordLines, IsBehindId, IsCutText, IsLogText, IsPlacedLine, IsRunErrorText, IsShown, IsShownOf, behind_id, cause_words, first_bad, lines_with_places, place_and_id, placed_line, of_log, of_refused, of_inputs}
+use Rattle.tool_answers.specs.ShownWords.{IsGrownBy, IsLineOf, IsRecordLine, RecordWords}
 use Rattle.warg_audit.specs.Files.Texts.{no, yes}
 use Rattle.tool_answers.specs.Verdicts.{envelopes_of}
 use Rattle.warg_audit.specs.declared.files.command_output.CommandOutput.{CommandOutput}
@@ -43,6 +44,15 @@ lines_with_places-append place at (first ∷ more) line is =
     ap (λ rest. placed_line place first ++ rest) (lines_with_places-append (place + 1) at more line e)
     ∙ sym (append_assoc (placed_line place first) (lines_with_places (place + 1) more) (placed_line at line))
 
+-- a place, an id and what is said of a record, put together one by one
+pub place_joined : (place : ℕ) (id record_id : RecordId) (said begun whole : List ℕ) → begun ≡ place_and_id place record_id → record_id ≡ id
+    → whole ≡ begun ++ said → whole ≡ decimal place ++ (codes " " ++ behind_id id said)
+place_joined place id record_id said begun whole first same ended =
+    let hash = hash_text record_id.hash in
+    ended ∙ ap (λ t. t ++ said) first ∙ append_assoc (decimal place) (codes " " ++ (hash ++ codes " ")) said
+    ∙ ap (λ t. decimal place ++ (codes " " ++ t)) (append_assoc hash (codes " ") said)
+    ∙ ap (λ i. decimal place ++ (codes " " ++ behind_id i said)) same
+
 module _ {C : Type 0} (id : List ℕ → RecordId) (words_of : C → RecordWords) where
   -- what is said of the record that an envelope holds, and that behind its id
   abbrev pub IsSaidOfEnvelope : DecodedEnvelope C → List ℕ → Type 0
@@ -55,23 +65,20 @@ module _ {C : Type 0} (id : List ℕ → RecordId) (words_of : C → RecordWords
       → AreEnvelopeLines id words_of (take 0 records) text
   no_record records text none = record { lines = []; each = tt; is = none }
 
-  pub record_more : (records : List (DecodedEnvelope C)) (n : ℕ) (it : DecodedEnvelope C) (record_id : RecordId) (text line said placed added new : List ℕ)
-      → n < length records → it ≡ slice_index_or records n it → record_id ≡ id it.envelope.content → AreEnvelopeLines id words_of (take n records) text
-      → IsSaidOfEnvelope it line → said ≡ line → placed ≡ placed_line n (behind_id record_id said) → added ≡ placed → new ≡ text ++ added
-      → AreEnvelopeLines id words_of (take (n + 1) records) new
-  record_more records n it record_id text line said placed added new low is named so_far is_line same behind alike more =
+  pub record_more : (records : List (DecodedEnvelope C)) (n : ℕ) (it : DecodedEnvelope C) (text new : List ℕ) → n < length records
+      → it ≡ slice_index_or records n it → AreEnvelopeLines id words_of (take n records) text
+      → IsGrownBy (IsPlacedLine id words_of n it) text new → AreEnvelopeLines id words_of (take (n + 1) records) new
+  record_more records n it text new low is so_far more =
       let e : n + 1 ≡ suc n = omega arith in
       let whole = ap (λ m. take m records) e ∙ take-suc records n it low ∙ ap (λ x. take n records ++ x ∷ []) (sym is) in
       let fits : n ≤ length records = omega arith in
       let long = AllZip-long IsLineOfEnvelope (take n records) so_far.lines so_far.each ∙ length-take-le n records fits in
       let next : n ≡ 0 + length so_far.lines = omega arith in
-      let shown = behind_id (id it.envelope.content) line in
-      let is_shown : IsLineOfEnvelope it shown = (line, is_line, refl) in
-      let alone = alike ∙ behind ∙ ap (λ i. placed_line n (behind_id i said)) named ∙ ap (λ t. placed_line n (behind_id (id it.envelope.content) t)) same in
+      let shown = more.1.0 in
       record {
         lines = so_far.lines ++ shown ∷ [];
-        each = rw whole (zip_more IsLineOfEnvelope (take n records) so_far.lines it shown so_far.each is_shown);
-        is = more ∙ ap (λ t. t ++ added) so_far.is ∙ ap (λ t. lines_with_places 0 so_far.lines ++ t) alone
+        each = rw whole (zip_more IsLineOfEnvelope (take n records) so_far.lines it shown so_far.each more.1.1);
+        is = more.2 ∙ ap (λ t. t ++ more.0) so_far.is ∙ ap (λ t. lines_with_places 0 so_far.lines ++ t) more.1.2
             ∙ sym (lines_with_places-append 0 n so_far.lines shown next);
       }
 

@@ -21,6 +21,10 @@ behind_id id said = hash_text id.hash ++ (codes " " ++ said)
 abbrev pub placed_line : ℕ → List ℕ → List ℕ
 placed_line place said = line (printable (decimal place ++ (codes " " ++ said)))
 
+-- the place of a record and its id, with a space behind each
+abbrev pub place_and_id : ℕ → RecordId → List ℕ
+place_and_id place id = decimal place ++ (codes " " ++ (hash_text id.hash ++ codes " "))
+
 -- the lines of records in order, each behind its place
 abbrev pub lines_with_places : ℕ → List (List ℕ) → List ℕ
 lines_with_places place [] = []
@@ -44,6 +48,11 @@ cause_words why entry advice = line (printable (codes "why: " ++ why)) ++ (entry
 -- the text is what P holds of, behind the id
 abbrev pub IsBehindId : RecordId → (List ℕ → Type 0) → List ℕ → Type 0
 IsBehindId id P text = (said : List ℕ) × P said × (text ≡ behind_id id said)
+
+-- the line of the record that an envelope holds, behind its place
+abbrev pub IsPlacedLine : {C : Type 0} → (List ℕ → RecordId) → (C → RecordWords) → ℕ → DecodedEnvelope C → List ℕ → Type 0
+IsPlacedLine id words_of place it line =
+    (shown : List ℕ) × IsBehindId (id it.envelope.content) (IsRecordLine it.envelope.key_id (words_of it.contents)) shown × (line ≡ placed_line place shown)
 
 -- a line for each record that an envelope holds, in order, by the ids of content bytes and by what is shown of it
 pub record AreEnvelopeLines {C : Type 0} (id : List ℕ → RecordId) (words_of : C → RecordWords) (records : List (DecodedEnvelope C)) (text : List ℕ) : Type 0 where

@@ -1,13 +1,14 @@
 //! `show`: a log in words.
 
-ghost use Rattle.std.specs.Prelude.{◌≡◌, List, ℕ, IfOk, map, string_bytes};
+ghost use Rattle.std.specs.Prelude.{◌≡◌, List, ℕ, IfOk, OnOk, map, string_bytes};
 ghost use Rattle.std.specs.Option.{option_copied};
 ghost use Rattle.std.specs.Vec.{vec_items};
 ghost use Rattle.warg_protocol.specs.Logs.{envelopes};
 ghost use Rattle.warg_audit.specs.Files.Answers.{output_data, Answers};
 ghost use Rattle.warg_audit.specs.Files.RecordLines.{record_lines};
-ghost use Rattle.tool_questions.specs.Show.ShownLogs.{AreEnvelopeLines, IsLogText, behind_id, cause_words};
-ghost use Rattle.tool_questions.specs.Show.ShownLogs.{entry_line, head_line, placed_line};
+ghost use Rattle.tool_answers.specs.ShownWords.{IsGrownBy};
+ghost use Rattle.tool_questions.specs.Show.ShownLogs.{AreEnvelopeLines, IsLogText, IsPlacedLine, cause_words};
+ghost use Rattle.tool_questions.specs.Show.ShownLogs.{entry_line, head_line, place_and_id};
 ghost use Rattle.tool_questions.specs.Show.ShowWords.{AreShownLines, IsCut, IsCutPrinted, IsReason, IsShownLog};
 ghost use Rattle.warg_audit.specs.Files.Texts.{yes};
 ghost use Rattle.warg_audit.specs.Files.Unusable.{IsOfLines};
@@ -22,7 +23,7 @@ use warg_audit::files::command_error::CommandError;
 use warg_audit::files::command_output::CommandOutput;
 use warg_audit::files::input::{Input, Store, read_input};
 use warg_audit::{cause_name, refused_reply};
-use warg_printable::printed_line;
+use warg_printable::{printed_line, push_printed_line};
 use warg_protocol::registry::RecordId;
 use warg_protocol::signing::Verifier;
 use warg_protocol::{AuditedLog, ProtoEnvelope, RunError};
@@ -80,13 +81,26 @@ fn run_error_text<L: ToolLog>(
     Ok(all)
 }
 
-// What is said of a record, on a line behind its place and its id.
-fn placed_line(alloc: Global, place: usize, id: &RecordId, said: &str) -> Result<String, AllocError>
-    ensures { IfOk result (λ line. string_bytes line ≡
-        placed_line place (behind_id id.now said.now)) }
+// The place of a record and its id, with a space behind each.
+fn place_and_id(alloc: Global, place: usize, id: &RecordId) -> Result<String, AllocError>
+    ensures { IfOk result (λ text. string_bytes text ≡ place_and_id place id.now) }
 {
-    let said = format!(in alloc; "{place} {id} {said}")?;
-    printed_line(alloc, said.as_str())
+    format!(in alloc; "{place} {id} ")
+}
+
+// Appends the line of a record: its place, its id, and what is said of it.
+fn push_record_line<L: ToolLog>(
+    alloc: Global,
+    place: usize,
+    envelope: &ProtoEnvelope<L::Record>,
+    text: &mut String,
+) -> Result<(), AllocError>
+    ensures { OnOk result (IsGrownBy (IsPlacedLine L.kind.id L.words_of place envelope.now)
+        (string_bytes text.old) (string_bytes text.new)) }
+{
+    let mut line = place_and_id(alloc, place, &L::record_id(envelope))?;
+    L::push_record(alloc, envelope, &mut line)?;
+    push_printed_line(line.as_str(), text)
 }
 
 // A line for each record, its place first, and its id.
@@ -99,9 +113,7 @@ fn records_text<L: ToolLog>(
 {
     let mut text = String::new(alloc);
     for (place, envelope) in records.iter().enumerate() {
-        let said = L::record_line(alloc, envelope)?;
-        let line = placed_line(alloc, place, &L::record_id(envelope), said.as_str())?;
-        text.push_str(line.as_str())?;
+        push_record_line::<L>(alloc, place, envelope, &mut text)?;
     }
     Ok(text)
 }
@@ -131,8 +143,7 @@ fn log_text<L: ToolLog, V: Verifier + Drop>(
     let mut text = records_text::<L>(alloc, log.records())?;
     let head = head_line(alloc, log.head())?;
     text.push_str(head.as_str())?;
-    let state = log.state().state_text(alloc)?;
-    text.push_str(state.as_str())?;
+    log.state().push_state(alloc, &mut text)?;
     Ok(text)
 }
 

@@ -9,10 +9,8 @@ loop-place-init g c =
 
 pub loop-place-preserved : goal.loop-place-preserved
 loop-place-preserved g c =
-    record_more g.L.Validator.kind.id g.L.ToolLog.words_of c.args.records.now c.loop-place.place _ c.record_id.result
-    (string_bytes c.loop-place.text) (string_bytes c.in_ok-said.said) c.as_str.result.now (string_bytes c.in_ok-line.line)
-    c.as_str-in-loop-place.result.now _ c.loop-place-test.true c.index-records-place.is c.record_id.ensures c.loop-place.invariant
-    c.in_ok-said.ensures c.as_str.ensures.value c.in_ok-line.ensures c.as_str-in-loop-place.ensures.value c.in_ok-push_str.ensures.bytes
+    record_more g.L.Validator.kind.id g.L.ToolLog.words_of c.args.records.now c.loop-place.place _ (string_bytes c.loop-place.text) _
+    c.loop-place-test.true c.index-records-place.is c.loop-place.invariant c.in_ok-push_record_line.ensures
 
 pub returns : goal.returns
 returns g c =
