@@ -14,6 +14,9 @@ use warg_protocol::{ProtoEnvelope, RunError, operator, package, run_from};
 /// What each file of text may begin with, and no log may.
 const BYTE_ORDER_MARK: &[u8] = b"\xef\xbb\xbf";
 
+/// How many bytes a record, and those before it, may have for a likely reason to be looked for.
+const MOST_BYTES: usize = 65_536;
+
 const MARKED: &str = "the file begins with a byte order mark: save it without one";
 
 const BLANK: &str = "the line is blank: only the last line of a file may be";
@@ -134,8 +137,8 @@ fn other_kind(alloc: Global, input: &[u8]) -> Result<&'static str, AllocError> {
     }
 }
 
-/// Why an input, which stands at this place, is likely refused after a state; empty where none is known.
-pub fn likely_hint<L: ToolLog>(
+// Why an input, which stands at this place, is likely refused after a state; empty where none is known.
+fn likely_hint<L: ToolLog>(
     alloc: Global,
     state: &L,
     place: usize,
@@ -156,7 +159,19 @@ pub fn likely_hint<L: ToolLog>(
     other_kind(alloc, input)
 }
 
-/// The same of an input among those of a log, by its error.
+// Whether all inputs together have at most so many bytes.
+fn are_within(mut most: usize, inputs: &[Vec<u8>]) -> bool {
+    for input in inputs {
+        match most.checked_sub(input.len()) {
+            Some(left) => most = left,
+            None => return false,
+        }
+    }
+    true
+}
+
+/// The same of an input among those of a log, by its error. None is looked for behind too many bytes: a record is read and
+/// judged up to seven times for it.
 pub(crate) fn hint_in<L: ToolLog>(
     alloc: Global,
     inputs: &[Vec<u8>],
@@ -166,7 +181,11 @@ pub(crate) fn hint_in<L: ToolLog>(
     let Some(input) = inputs.get(place) else {
         return Ok("");
     };
-    match run_from(alloc, L::new(alloc)?, &AnySignature, &inputs[..place]) {
+    let before = &inputs[..place];
+    if !are_within(MOST_BYTES, before) || input.len() > MOST_BYTES {
+        return Ok("");
+    }
+    match run_from(alloc, L::new(alloc)?, &AnySignature, before) {
         Ok(state) => likely_hint(alloc, &state, place, input.as_slice()),
         Err(_) => Ok(""),
     }
