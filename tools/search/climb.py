@@ -8,7 +8,7 @@ from collections.abc import Callable, Iterator
 from search.calls import CALLS, Cost, cost
 from search.genes import Inputs, any_genes, inputs_of, varied
 
-# What a search of an hour found: the genes of an input in each line.
+# What a search of an hour found, and more that is known: the genes of an input in each line.
 FOUND = pathlib.Path(__file__).with_name("found.txt")
 
 # The inputs of the climb, the inputs that its table is of (both in bytes), and after how many seconds of a processor a

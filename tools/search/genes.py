@@ -30,6 +30,9 @@ NAMES = ("fresh", "same", "one hash", "crowding", "falling")
 # What stands as a value where JSON is read, beside what is right there.
 VALUES = ("right", "lists", "objects", "nested", "numbers", "long number", "texts", "escapes", "null", "wrong")
 
+# How a log ends: as its other entries do, or by an entry that is refused.
+ENDINGS = ("lawful", "lawful", "refused")
+
 LENGTHS = (1, 4, 8, 32, 100, 1000, 100_000)
 COUNTS = (0, 1, 2, 4, 16, 100, 1000)
 RECORDS = (1, 2, 10, 100, 10**9)
@@ -49,11 +52,12 @@ class Part:
 
 @dataclasses.dataclass(frozen=True)
 class Genes:
-    """An input: its format, its parts, and how many entries a record has."""
+    """An input: its format, its parts, how many entries a record has, and how a log ends."""
 
     format: str
     parts: tuple[Part, ...]
     a_record: int
+    ending: str = "lawful"
 
 
 class Inputs(NamedTuple):
@@ -74,7 +78,8 @@ def inputs_of(text: str) -> Inputs:
 
 
 def genes_of(said: dict[str, Any]) -> Genes:
-    return Genes(said["format"], tuple(Part(**it) for it in said["parts"]), said["a_record"])
+    parts = tuple(Part(**it) for it in said["parts"])
+    return Genes(said["format"], parts, said["a_record"], said.get("ending", "lawful"))
 
 
 def any_part(draw: random.Random, form: str) -> Part:
@@ -91,7 +96,7 @@ def any_part(draw: random.Random, form: str) -> Part:
 def any_genes(draw: random.Random, form: str) -> Genes:
     """An input of this format, of one part or two."""
     parts = tuple(any_part(draw, form) for _ in range(draw.choice((1, 1, 2))))
-    return Genes(form, parts, draw.choice(RECORDS))
+    return Genes(form, parts, draw.choice(RECORDS), draw.choice(ENDINGS))
 
 
 def varied_part(draw: random.Random, form: str, part: Part) -> Part:
@@ -117,6 +122,9 @@ def varied_parts(draw: random.Random, form: str, parts: Sequence[Part]) -> tuple
 
 def varied(draw: random.Random, genes: Genes) -> Genes:
     """The input with one gene drawn anew."""
-    if draw.random() < 0.15:
+    turn = draw.random()
+    if turn < 0.15:
         return dataclasses.replace(genes, a_record=draw.choice(RECORDS))
+    if turn < 0.25:
+        return dataclasses.replace(genes, ending=draw.choice(ENDINGS))
     return dataclasses.replace(genes, parts=varied_parts(draw, genes.format, genes.parts))

@@ -100,11 +100,19 @@ def record_parts(genes: Genes, kind: str, size: int) -> Iterator[list[bytes]]:
             entries = []
 
 
+def records(genes: Genes, kind: str, size: int) -> list[list[bytes]]:
+    """The entries of each record, of which the last is refused where the log ends so."""
+    made = list(record_parts(genes, kind, size))
+    if genes.ending == "refused":
+        made[-1].append(yank("1.0.0-never") if kind == "package" else define("No name"))
+    return made
+
+
 def log(genes: Genes, size: int) -> bytes:
     """A log of about so many bytes, whose records alice signs."""
     kind = genes.format.partition(" ")[0]
     before, lines = None, []
-    for place, entries in enumerate(record_parts(genes, kind, size // 2)):
+    for place, entries in enumerate(records(genes, kind, size // 2)):
         content = contents(before, place, entries, 1 if kind == "operator" else 0)
         before = hash_text(f"WARG-{kind.upper()}-LOG-RECORD-V0:".encode() + content)
         lines.append(envelope("alice", content, kind.upper()).hex())

@@ -60,6 +60,15 @@ class Made(unittest.TestCase):
         ]:
             self.assertEqual(found_of(call, genes(form, what, name="one hash")).status, 0, call)
 
+    def test_a_log_may_end_by_what_is_refused(self) -> None:
+        refused = [("package", "grant", "YankOfUnreleased"), ("operator", "define", "InvalidNamespace")]
+        for kind, what, offence in refused:
+            for a_record in (10, 10**9):
+                lawful = dataclasses.replace(genes(f"{kind} log", what), a_record=a_record)
+                lines = made(lawful, SIZE).count(b"\n")
+                found = found_of(f"audit {kind}", dataclasses.replace(lawful, ending="refused"))
+                self.assertEqual((found.line, found.status), (f"refused {lines - 1} {offence}", 1))
+
     def test_a_checkpoint_and_a_proof_are_read(self) -> None:
         found = found_of("verify absence", genes("checkpoint", "unknown"), genes("proof", "path"))
         self.assertIn(found.status, (1, 2))
