@@ -144,9 +144,6 @@ fn likely_hint<L: ToolLog>(
     place: usize,
     input: &[u8],
 ) -> Result<&'static str, AllocError> {
-    if input.is_empty() {
-        return Ok(BLANK);
-    }
     if is_taken(alloc, state.try_clone()?, input, &ToyVerifier)? {
         return Ok(TOY);
     }
@@ -181,6 +178,9 @@ pub(crate) fn hint_in<L: ToolLog>(
     let Some(input) = inputs.get(place) else {
         return Ok("");
     };
+    if input.is_empty() {
+        return Ok(BLANK);
+    }
     let before = &inputs[..place];
     if !are_within(MOST_BYTES, before) || input.len() > MOST_BYTES {
         return Ok("");
