@@ -1,9 +1,12 @@
 """The climb to the inputs that cost the most for each of their bytes."""
+import multiprocessing
+import os
 import pathlib
 import random
 import sys
 import time
-from collections.abc import Callable, Iterator
+from collections.abc import Callable, Iterable, Iterator, Sequence
+from concurrent.futures import ProcessPoolExecutor
 
 from search.calls import CALLS, Cost, cost
 from search.genes import Inputs, any_genes, inputs_of, varied
@@ -30,11 +33,11 @@ HEIGHTS: dict[str, Height] = {
 
 
 class Climb:
-    """The costliest input that was found of a call, by time or by memory."""
+    """The costliest input that was found of a call, by one of the measures."""
 
-    def __init__(self, call: str, height: Height) -> None:
+    def __init__(self, call: str, measure: str) -> None:
         self.call = call
-        self.height = height
+        self.measure = measure
         self.best: Inputs | None = None
         self.reached = 0.0
 
@@ -49,17 +52,17 @@ class Climb:
 
     def tried(self, inputs: Inputs, found: Cost) -> bool:
         """Takes the inputs where they cost more, and says whether they do."""
-        height = self.height(found)
+        height = HEIGHTS[self.measure](found)
         if height <= self.reached * 1.02:
             return False
         self.best, self.reached = inputs, height
         return True
 
 
-def climbs() -> Iterator[Climb]:
-    for call in CALLS:
-        for height in HEIGHTS.values():
-            yield Climb(call, height)
+def climbs(calls: Iterable[str]) -> Iterator[Climb]:
+    for call in calls:
+        for measure in HEIGHTS:
+            yield Climb(call, measure)
 
 
 def step(every: list[Climb], draw: random.Random) -> None:
@@ -87,8 +90,8 @@ HEAD = "| Call | Inputs | Printed | Time | Memory | Bytes a byte | Genes |\n|---
 def found_rows(every: list[Climb], count: int) -> Iterator[tuple[Inputs, Cost]]:
     """The costliest inputs of each measure, made as long as they may be."""
     seen = set()
-    for height in HEIGHTS.values():
-        ranked = sorted((it for it in every if it.best and it.height is height), key=lambda it: -it.reached)
+    for measure in HEIGHTS:
+        ranked = sorted((it for it in every if it.best and it.measure == measure), key=lambda it: -it.reached)
         for it in ranked[:count]:
             if it.best and it.best.text() not in seen:
                 seen.add(it.best.text())
@@ -97,16 +100,26 @@ def found_rows(every: list[Climb], count: int) -> Iterator[tuple[Inputs, Cost]]:
                     yield it.best, found
 
 
-def search(seconds: float, seed: int, count: int) -> None:
-    """Climbs for so long, and prints the table of the worst that were found."""
-    draw, every, end, tries = random.Random(seed), list(climbs()), time.monotonic() + seconds, 0
+def climbed(calls: Sequence[str], seed: int, seconds: float) -> tuple[int, list[Climb]]:
+    """How many inputs of these calls were tried in so long, and the climbs."""
+    draw, every, end, tries = random.Random(seed), list(climbs(calls)), time.monotonic() + seconds, 0
     while time.monotonic() < end:
         step(every, draw)
         tries += 1
-    print(f"{tries} inputs of {SIZE >> 10} KiB were tried, from seed {seed}", file=sys.stderr)
+    return tries, every
+
+
+def search(seconds: float, seed: int, count: int) -> None:
+    """Climbs for so long, each processor to inputs of other calls, and prints a table of the worst that were found."""
+    calls, workers = list(CALLS), os.cpu_count() or 1
+    with ProcessPoolExecutor(workers, mp_context=multiprocessing.get_context("fork")) as pool:
+        tasks = [pool.submit(climbed, calls[it::workers], seed + it, seconds) for it in range(workers)]
+        found = [it.result() for it in tasks]
+    tries = sum(it for it, _ in found)
+    print(f"{tries} inputs of {SIZE >> 10} KiB were tried by {workers} processors, from seed {seed}", file=sys.stderr)
     print(HEAD, flush=True)
-    for inputs, found in found_rows(every, count):
-        print(row(inputs, found), flush=True)
+    for inputs, it in found_rows([climb for _, every in found for climb in every], count):
+        print(row(inputs, it), flush=True)
 
 
 def repeat(lines: list[str]) -> None:

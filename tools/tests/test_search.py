@@ -10,7 +10,7 @@ TOOLS = pathlib.Path(__file__).resolve().parents[1]
 sys.path.insert(0, str(TOOLS))
 
 from search.calls import CALLS, Cost, cost
-from search.climb import FOUND, HEIGHTS, Climb
+from search.climb import FOUND, Climb, climbed
 from search.genes import VALUES, WHAT, Genes, Inputs, Part, any_genes, inputs_of, varied
 from search.made import made
 
@@ -99,7 +99,7 @@ class Climbs(unittest.TestCase):
     """What a climb keeps."""
 
     def test_it_takes_what_costs_more_for_a_byte(self) -> None:
-        climb = Climb("latest", HEIGHTS["time"])
+        climb = Climb("latest", "time")
         cheap, dear = (Inputs("latest", (genes("package log", it),)) for it in ("empty", "release"))
         self.assertTrue(climb.tried(cheap, Cost(0, 1.0, 2**23, 1000, 0, "")))
         self.assertFalse(climb.tried(dear, Cost(0, 2.0, 2**23, 4000, 0, "")))
@@ -107,18 +107,25 @@ class Climbs(unittest.TestCase):
         self.assertEqual(climb.best, dear)
 
     def test_memory_is_counted_apart(self) -> None:
-        climb = Climb("latest", HEIGHTS["memory"])
+        climb = Climb("latest", "memory")
         given = Inputs("latest", (genes("package log", "release"),))
         self.assertFalse(climb.tried(given, Cost(0, 9.0, 2**20, 1000, 0, "")))
         self.assertTrue(climb.tried(given, Cost(0, 0.0, 2**24, 1000, 0, "")))
 
     def test_it_tries_inputs_of_its_call_alone(self) -> None:
         draw = random.Random(9)
-        climb = Climb("compare package", HEIGHTS["time"])
+        climb = Climb("compare package", "time")
         for place in range(50):
             inputs = climb.next(draw)
             self.assertEqual([it.format for it in inputs.genes], ["package log", "package log"])
             climb.tried(inputs, Cost(0, 1.0 + place, 2**23, 1000, 0, ""))
+
+    def test_each_call_is_climbed_by_each_measure(self) -> None:
+        tries, every = climbed(["latest", "make"], 3, 2)
+        self.assertGreater(tries, 0)
+        self.assertEqual([it.call for it in every], ["latest", "latest", "make", "make"])
+        self.assertEqual([it.measure for it in every], ["time", "memory"] * 2)
+        self.assertTrue(any(it.best for it in every))
 
     def test_what_was_found_can_be_made_again(self) -> None:
         for line in FOUND.read_text(encoding="utf-8").splitlines():
