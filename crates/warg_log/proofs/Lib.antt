@@ -2,6 +2,7 @@ pub mod Firsts
 pub mod SignedEntryLaws
 pub mod Steps
 pub mod HistoryLaws
+pub mod EntryAtFaultLaws
 pub mod Coherence
 pub mod EquivalentStates
 pub mod LogErrorLaws

@@ -4,6 +4,7 @@ pub mod RecordOffences
 pub mod Rules
 pub mod OffenceNames
 pub mod States
+pub mod EntriesAtFault
 pub mod PossibleOffences
 pub mod LogErrors
 pub mod History

@@ -12,6 +12,7 @@ pub mod laws;
 mod log;
 mod log_error;
 mod own_state;
+mod refusal;
 mod saved_members;
 mod saved_parts;
 

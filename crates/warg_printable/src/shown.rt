@@ -98,6 +98,7 @@ pub fn push_printed_line(text: &str, shown: &mut String) -> Result<(), AllocErro
     ensures { OnOk result (string_bytes shown.new ≡ string_bytes shown.old ++
         (printable text.now ++ codes "\n")) }
 {
+    shown.reserve(text.len() + 1)?;
     push_printed(text, shown)?;
     shown.push_str("\n")
 }

@@ -7,7 +7,7 @@ pub use Rattle.warg_log_records.specs.Readings.{operator_reading}
 pub use Rattle.warg_log_records.specs.OperatorEntries.{OperatorOwnEntry, entry_data, record_data, required_permission_of}
 pub use Rattle.warg_log_records.specs.OperatorWriting.{operator_record_message, operator_entry_message, operator_content_of}
 -- what a state stands for: `(view_of s).state.authority.holds`, `.key`, `(view_of s).state.own_state`, `(view_of s).head`
-pub use Rattle.warg_operator_log.specs.State.{View, view_of, envelope_as_data, offence_of, record_offence, after_record}
+pub use Rattle.warg_operator_log.specs.State.{View, view_of, envelope_as_data, offence_of, record_offence, unsigned_offence, after_record}
 pub use Rattle.warg_permissions.specs.declared.operator.Permission.{Permission}
 pub use Rattle.warg_permissions.specs.OperatorPermissions.{same_permission, permission_text, permission_in}
 -- the offences that operator logs alone have, and the names of all offences

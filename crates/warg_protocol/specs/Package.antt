@@ -7,7 +7,7 @@ pub use Rattle.warg_log_records.specs.Readings.{package_reading}
 pub use Rattle.warg_log_records.specs.PackageEntries.{PackageOwnEntry, entry_data, record_data, required_permission_of}
 pub use Rattle.warg_log_records.specs.PackageWriting.{package_record_message, package_entry_message, package_content_of}
 -- what a state stands for: `(view_of s).state.authority.holds`, `.key`, `.has_entry`, `(view_of s).state.own_state`, `(view_of s).head`
-pub use Rattle.warg_package_log.specs.State.{View, view_of, envelope_as_data, offence_of, record_offence, after_record}
+pub use Rattle.warg_package_log.specs.State.{View, view_of, envelope_as_data, offence_of, record_offence, unsigned_offence, after_record}
 pub use Rattle.warg_permissions.specs.declared.package.Permission.{Permission}
 pub use Rattle.warg_permissions.specs.PackagePermissions.{same_permission, permission_text, permission_in}
 -- the offences that package logs alone have, and the names of all offences
