@@ -1,7 +1,6 @@
-pub mod FirstEntryLemmas
 pub mod LoadingLemmas
 pub mod ShownWordLemmas
-pub mod ReencodedLemmas
+pub mod UnreadLemmas
 pub mod PartingLemmas
 pub mod KeyIdLemmas
 pub mod WordLemmas

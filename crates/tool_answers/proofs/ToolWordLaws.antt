@@ -2,7 +2,7 @@
 use Rattle.std.proofs.Common.{◌≡◌, ◌↔◌, ℕ, Bool, List, length, Option, Result}
 use Rattle.warg_protocol.specs.Errors.{DecodeError}
 use Rattle.warg_protocol.specs.Json.{JsonError, JsonTextError}
-use Rattle.warg_protocol.specs.Logs.{Cause, EnclosedRules, EnvelopeData, EnvelopeFault, Kind, SignatureRelation}
+use Rattle.warg_protocol.specs.Logs.{Cause, DecodedEnvelope, EnvelopeData, EnvelopeFault, Kind, SignatureRelation}
 use Rattle.warg_envelope.specs.Readings.{Reading}
 use Rattle.warg_replay.specs.Logs.{LogOf}
 use Rattle.warg_audit.specs.LogAnswers.{LogDisplay}
@@ -19,13 +19,13 @@ module _ {S E View Offence C M F P : Type 0} {kind : Kind View Offence} {view : 
     {knows has_key : S → List ℕ → Bool} {json_of : S → Result (List ℕ) JsonError}
     {state_of : List ℕ → Result S JsonTextError} {words_of : C → RecordWords}
     {says_words : List ℕ → RecordWords → Type 0} {sentence_of : E → List ℕ}
-    {has_first : ℕ → C → C → Type 0} {shows : List EnvelopeData → List ℕ → Type 0}
+    {shows : List EnvelopeData → List ℕ → Type 0}
     (log : LogOf kind view offence_of) (reading : Reading read meaning fault_of)
-    (tool : ToolOf order text_of knows has_key json_of state_of words_of says_words sentence_of has_first shows)
-    (count_of : C → ℕ) (rules : EnclosedRules C View Offence) where
+    (tool : ToolOf order text_of knows has_key json_of state_of words_of says_words sentence_of shows)
+    (tells_entry : View → DecodedEnvelope C → Offence → Option ℕ → Type 0) where
   pub explained : (v : View) (input : List ℕ) (cause : Cause (EnvelopeFault F) Offence) (why : List ℕ)
-      (entry : Option ℕ) → word.Explains log reading tool count_of rules v input cause why entry
-      ↔ Explains sentence_of fault_of offence_of read meaning count_of has_first rules.offence v input cause why entry
+      (entry : Option ℕ) → word.Explains log reading tool tells_entry v input cause why entry
+      ↔ Explains sentence_of fault_of offence_of read meaning tells_entry v input cause why entry
   explained v input cause why entry = (λ h. h, λ h. h)
 
 module _ {Meaning Fault View Offence : Type 0} (log : LogDisplay Meaning Fault View Offence)

@@ -2,7 +2,7 @@
 use Rattle.std.specs.Prelude.{ℕ, Bool, List, Option, Result}
 use Rattle.warg_protocol.specs.Errors.{DecodeError}
 use Rattle.warg_protocol.specs.Json.{JsonError, JsonTextError}
-use Rattle.warg_protocol.specs.Logs.{Cause, EnclosedRules, EnvelopeData, EnvelopeFault, Kind}
+use Rattle.warg_protocol.specs.Logs.{Cause, DecodedEnvelope, EnvelopeData, EnvelopeFault, Kind}
 use Rattle.warg_envelope.specs.Readings.{Reading}
 use Rattle.warg_replay.specs.Logs.{LogOf}
 use Rattle.tool_answers.specs.Explanations as explanation
@@ -15,11 +15,11 @@ module _ {S E View Offence C M F P : Type 0} {kind : Kind View Offence} {view : 
     {knows has_key : S → List ℕ → Bool} {json_of : S → Result (List ℕ) JsonError}
     {state_of : List ℕ → Result S JsonTextError} {words_of : C → RecordWords}
     {says_words : List ℕ → RecordWords → Type 0} {sentence_of : E → List ℕ}
-    {has_first : ℕ → C → C → Type 0} {shows : List EnvelopeData → List ℕ → Type 0}
+    {shows : List EnvelopeData → List ℕ → Type 0}
     (log : LogOf kind view offence_of) (reading : Reading read meaning fault_of)
-    (tool : ToolOf order text_of knows has_key json_of state_of words_of says_words sentence_of has_first shows)
-    (count_of : C → ℕ) (rules : EnclosedRules C View Offence) where
+    (tool : ToolOf order text_of knows has_key json_of state_of words_of says_words sentence_of shows)
+    (tells_entry : View → DecodedEnvelope C → Offence → Option ℕ → Type 0) where
   -- why the input can't come after the view: the error's sentence, and the entry at fault
   abbrev pub Explains : View → List ℕ → Cause (EnvelopeFault F) Offence → List ℕ → Option ℕ → Type 0
   Explains =
-      explanation.Explains sentence_of fault_of offence_of read meaning count_of has_first rules.offence
+      explanation.Explains sentence_of fault_of offence_of read meaning tells_entry

@@ -10,4 +10,4 @@ use Rattle.tool_answers.specs.ShownWords.{RecordWords}
 pub record ToolOf {S E P C : Type 0} (order : List P) (text_of : P → List ℕ) (knows has_key : S → List ℕ → Bool)
     (json_of : S → Result (List ℕ) JsonError) (state_of : List ℕ → Result S JsonTextError)
     (words_of : C → RecordWords) (says_words : List ℕ → RecordWords → Type 0) (sentence_of : E → List ℕ)
-    (has_first : ℕ → C → C → Type 0) (shows : List EnvelopeData → List ℕ → Type 0) : Type 0 where
+    (shows : List EnvelopeData → List ℕ → Type 0) : Type 0 where

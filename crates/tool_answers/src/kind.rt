@@ -1,12 +1,11 @@
 //! What the commands ask of a kind of log.
 
 ghost use Rattle.std.specs.Prelude.{◌≡◌, ℕ, Bool, Contains, List, Result, Ok, IfNone};
-ghost use Rattle.std.specs.Prelude.{IfOk, IfSome, OnOk, is_some, string_bytes, true};
+ghost use Rattle.std.specs.Prelude.{IfOk, IfSome, OnOk, string_bytes};
 ghost use Rattle.warg_protocol.specs.Json.{JsonError as OfJsonError, JsonTextError as OfJsonTextError};
 ghost use Rattle.warg_protocol.specs.Json.{ReturnsOrNoMemory};
-ghost use Rattle.warg_protocol.specs.Logs.{EnvelopeData, ContentsMatchBytes};
+ghost use Rattle.warg_protocol.specs.Logs.{EnvelopeData};
 ghost use Rattle.warg_saved_states.specs.JsonText.{ReturnsOfText};
-ghost use Rattle.tool_answers.specs.Explanations.{HoldsFirst};
 ghost use Rattle.tool_answers.specs.KeyIds.{AreIdsOf};
 ghost use Rattle.tool_answers.specs.ShownWords.{IsGrownBy, IsRecordLine, IsTimeText, RecordWords};
 ghost use Rattle.tool_answers.specs.Tools.{ToolOf};
@@ -42,15 +41,12 @@ pub trait ToolLog: Report {
     // The sentence of an error.
     ghost sentence_of: { Self.Error → List ℕ };
 
-    // Whether a record has so many of the first entries of another, and is no other else.
-    ghost has_first: { ℕ → Self.Record → Self.Record → Type 0 };
-
     // Whether a text shows the state that records lead to.
     ghost shows: { List EnvelopeData → List ℕ → Type 0 };
 
     // All above, as one word for contracts: `Explains L.log L.Record.reading L.tool ..`.
     ghost tool: { ToolOf order text_of knows has_key json_of state_of words_of says_words
-        sentence_of has_first shows };
+        sentence_of shows };
 
     /// The permissions of the kind, in their order.
     fn permissions(alloc: Global) -> Result<Vec<Self::Permission>, AllocError>
@@ -94,18 +90,6 @@ pub trait ToolLog: Report {
         ensures { OnOk result (IsGrownBy
             (IsRecordLine envelope.now.envelope.key_id (words_of envelope.now.contents))
             (string_bytes text.old) (string_bytes text.new)) };
-
-    /// The record with so many of its first entries, in an envelope of the same signer. None where that record would not
-    /// read back as it is written; one that was read does.
-    fn first_entries(
-        alloc: Global,
-        envelope: &ProtoEnvelope<Self::Record>,
-        count: usize,
-    ) -> Result<Option<ProtoEnvelope<Self::Record>>, AllocError>
-        ensures cut { IfOk result (λ found. IfSome found
-            (HoldsFirst has_first envelope.now count)) }
-        ensures found { ContentsMatchBytes Self.Record.read Self.Record.meaning envelope.now →
-            IfOk result (λ found. is_some found ≡ true) };
 
     /// Appends a line for each key, and for each release or namespace.
     fn push_state(&self, alloc: Global, text: &mut String) -> Result<(), AllocError>

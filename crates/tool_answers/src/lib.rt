@@ -10,7 +10,6 @@ pub mod loading;
 mod operator_log;
 mod package_log;
 pub mod parting;
-mod reencoded;
 pub mod reply;
 pub mod side;
 pub mod unread;

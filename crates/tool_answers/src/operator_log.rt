@@ -6,10 +6,8 @@ ghost use Rattle.tool_answers.specs.ShownWords.{namespace_line, namespace_lines,
 
 use crate::key_ids::key_ids;
 use crate::kind::ToolLog;
-use crate::reencoded::reencode;
 use crate::wording::{EntryWords, push_key_lines, push_permissions, push_record, time_words};
 use std::alloc::{AllocError, Global};
-use warg_log_records::laws::equality;
 use warg_permissions::LogPermission;
 use warg_printable::push_printed_line;
 use warg_protocol::operator::{
@@ -17,7 +15,7 @@ use warg_protocol::operator::{
     ValidationError,
 };
 use warg_protocol::signing::KeyID;
-use warg_protocol::{Encode, JsonError, JsonTextError, ProtoEnvelope};
+use warg_protocol::{JsonError, JsonTextError, ProtoEnvelope};
 
 impl EntryWords for OperatorEntry {
     ghost use Rattle.warg_protocol.specs.Operator.{entry_data};
@@ -98,7 +96,6 @@ impl ToolLog for LogState {
     ghost use Rattle.warg_protocol.specs.Operator.{entry_data, permission_text, record_data};
     ghost use Rattle.warg_protocol.specs.Operator.{state_in, state_json, view_of};
     ghost use Rattle.warg_operator_log.specs.ErrorTexts.{error_text};
-    ghost use Rattle.tool_answers.specs.Explanations.{has_first_operator_entries};
     ghost use Rattle.tool_answers.specs.ShownWords.{operator_entry_words, says_operator_words};
     ghost use Rattle.tool_answers.specs.ShownWords.{shows_namespaces, words_at};
     ghost use Rattle.tool_answers.specs.Words.{in_operator_order, operator_order};
@@ -123,8 +120,6 @@ impl ToolLog for LogState {
     ghost says_words = { says_operator_words };
 
     ghost sentence_of = { error_text };
-
-    ghost has_first = { has_first_operator_entries };
 
     ghost shows = { shows_namespaces };
 
@@ -168,18 +163,6 @@ impl ToolLog for LogState {
         text: &mut String,
     ) -> Result<(), AllocError> {
         push_record(alloc, envelope, text)
-    }
-
-    fn first_entries(
-        alloc: Global,
-        envelope: &ProtoEnvelope<OperatorRecord>,
-        count: usize,
-    ) -> Result<Option<ProtoEnvelope<OperatorRecord>>, AllocError> {
-        equality();
-        let mut record = envelope.contents().clone()?;
-        record.entries.truncate(count);
-        let content = record.encode(alloc)?;
-        reencode(alloc, &record, content, envelope)
     }
 
     fn push_state(&self, alloc: Global, text: &mut String) -> Result<(), AllocError> {

@@ -8,10 +8,8 @@ ghost use Rattle.tool_answers.specs.ShownWords.{released_line, yanked_line};
 
 use crate::key_ids::key_ids;
 use crate::kind::ToolLog;
-use crate::reencoded::reencode;
 use crate::wording::{EntryWords, push_key_lines, push_permissions, push_record, time_words};
 use std::alloc::{AllocError, Global};
-use warg_log_records::laws::equality;
 use warg_permissions::LogPermission;
 use warg_printable::printed_line;
 use warg_protocol::hash::AnyHash;
@@ -20,7 +18,7 @@ use warg_protocol::package::{
     ValidationError,
 };
 use warg_protocol::signing::KeyID;
-use warg_protocol::{Encode, JsonError, JsonTextError, ProtoEnvelope, Version};
+use warg_protocol::{JsonError, JsonTextError, ProtoEnvelope, Version};
 
 impl EntryWords for PackageEntry {
     ghost use Rattle.warg_protocol.specs.Package.{entry_data};
@@ -122,7 +120,6 @@ impl ToolLog for LogState {
     ghost use Rattle.warg_protocol.specs.Package.{entry_data, permission_text, record_data};
     ghost use Rattle.warg_protocol.specs.Package.{state_in, state_json, view_of};
     ghost use Rattle.warg_package_log.specs.ErrorTexts.{error_text};
-    ghost use Rattle.tool_answers.specs.Explanations.{has_first_package_entries};
     ghost use Rattle.tool_answers.specs.ShownWords.{package_entry_words, says_package_words, shows_releases, words_at};
     ghost use Rattle.tool_answers.specs.Words.{in_package_order, package_order};
 
@@ -146,8 +143,6 @@ impl ToolLog for LogState {
     ghost says_words = { says_package_words };
 
     ghost sentence_of = { error_text };
-
-    ghost has_first = { has_first_package_entries };
 
     ghost shows = { shows_releases };
 
@@ -191,18 +186,6 @@ impl ToolLog for LogState {
         text: &mut String,
     ) -> Result<(), AllocError> {
         push_record(alloc, envelope, text)
-    }
-
-    fn first_entries(
-        alloc: Global,
-        envelope: &ProtoEnvelope<PackageRecord>,
-        count: usize,
-    ) -> Result<Option<ProtoEnvelope<PackageRecord>>, AllocError> {
-        equality();
-        let mut record = envelope.contents().clone()?;
-        record.entries.truncate(count);
-        let content = record.encode(alloc)?;
-        reencode(alloc, &record, content, envelope)
     }
 
     fn push_state(&self, alloc: Global, text: &mut String) -> Result<(), AllocError> {

@@ -13,9 +13,9 @@ module _ {S E View Offence C P : Type 0} {kind : Kind View Offence} {view : S �
     {offence_of : E → Option Offence} {order : List P} {text_of : P → List ℕ} {knows has_key : S → List ℕ → Bool}
     {json_of : S → Result (List ℕ) JsonError} {state_of : List ℕ → Result S JsonTextError}
     {words_of : C → RecordWords} {says_words : List ℕ → RecordWords → Type 0} {sentence_of : E → List ℕ}
-    {has_first : ℕ → C → C → Type 0} {shows : List EnvelopeData → List ℕ → Type 0}
+    {shows : List EnvelopeData → List ℕ → Type 0}
     (log : LogOf kind view offence_of)
-    (tool : ToolOf order text_of knows has_key json_of state_of words_of says_words sentence_of has_first shows) where
+    (tool : ToolOf order text_of knows has_key json_of state_of words_of says_words sentence_of shows) where
   -- the kind of log as questions are asked of it, by what keys hold, what entries do, which record is the last, and how it is shown
   abbrev pub askable : {M F : Type 0} → (View → List ℕ → P → Bool) → Effects P → (S → Option Head) → LogDisplay M F View Offence
       → Askable M F View Offence S P

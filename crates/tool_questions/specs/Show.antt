@@ -1,4 +1,3 @@
 pub mod Advice
-pub mod Reasons
 pub mod ShownLogs
 pub mod ShowWords

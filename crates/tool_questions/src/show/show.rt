@@ -67,7 +67,7 @@ fn run_error_text<L: ToolLog>(
 ) -> Result<String, AllocError>
     ensures { ForDisplay L.log L.Record.reading L.report (λ log.
         IfOk result (λ text. ForRunError L.log L.Record.reading error.now (λ belongs seen inputs.
-        IsReason L.log L.Record.reading L.tool L.count_of L.record_rules log belongs seen inputs
+        IsReason L.log L.Record.reading L.tool L.tells_entry log belongs seen inputs
         (L.view state.now) input.now error.now.index (string_bytes text)))) }
 {
     let Some(name) = cause_name::<L>(&error.cause) else {
@@ -156,7 +156,7 @@ fn cut_text<L: ToolLog, V: Verifier + Drop>(
 ) -> Result<String, AllocError>
     ensures { ForDisplay L.log L.Record.reading L.report (λ shown.
         IfOk result (λ text. ForRunError L.log L.Record.reading error.now (λ belongs seen inputs.
-        IsCut L.log L.Record.reading L.tool L.count_of L.record_rules shown belongs seen inputs
+        IsCut L.log L.Record.reading L.tool L.tells_entry shown belongs seen inputs
         (envelopes log.now.records) input.now error.now.index (string_bytes text)))) }
 {
     let mut text = records_text::<L>(alloc, log.records())?;
@@ -187,7 +187,7 @@ fn refused_answer<L: ToolLog, V: Verifier + Drop>(
 ) -> Result<CommandOutput, AllocError>
     ensures { ForDisplay L.log L.Record.reading L.report (λ shown.
         IfOk result (λ answer. ForRunError L.log L.Record.reading error.now (λ belongs seen all.
-        IsCutPrinted L.log L.Record.reading L.tool L.count_of L.record_rules shown belongs seen all
+        IsCutPrinted L.log L.Record.reading L.tool L.tells_entry shown belongs seen all
         (envelopes log.now.records) input.now error.now.index (output_data answer)))) }
 {
     let text = cut_text(alloc, log, input, error)?;
@@ -201,7 +201,7 @@ fn inputs_answer<L: ToolLog, V: Verifier + Drop>(
     inputs: &[Vec<u8>],
 ) -> Result<CommandOutput, AllocError>
     ensures { ForDisplay L.log L.Record.reading L.report (λ log. IfOk result (λ answer.
-        IsShownLog L.log L.Record.reading L.tool L.count_of L.record_rules log
+        IsShownLog L.log L.Record.reading L.tool L.tells_entry log
         (V.belongs verifier) (map vec_items inputs.now) (output_data answer))) }
 {
     let mut log = AuditedLog::<L, V>::new(alloc, verifier)?;
@@ -221,7 +221,7 @@ pub fn show_answer<L: ToolLog, V: Verifier>(
     input: Input<'_>,
 ) -> Result<CommandOutput, CommandError>
     ensures { ForDisplay L.log L.Record.reading L.report (λ log.
-        Answers (AreShownLines L.log L.Record.reading L.tool L.count_of L.record_rules log
+        Answers (AreShownLines L.log L.Record.reading L.tool L.tells_entry log
         (V.belongs verifier.now) (record_lines input.entry.bytes.items)) result) }
 {
     match file_inputs(alloc, input.path, input.bytes) {
@@ -243,7 +243,7 @@ pub fn show_of_file<L: ToolLog, V: Verifier, S: Store>(
 ) -> Result<CommandOutput, CommandError>
     ensures answered { ForDisplay L.log L.Record.reading L.report (λ log.
         Answers (IsOfLines (S.files store.old) path.now (AreShownLines L.log
-        L.Record.reading L.tool L.count_of L.record_rules log (V.belongs verifier.now))) result) }
+        L.Record.reading L.tool L.tells_entry log (V.belongs verifier.now))) result) }
     ensures kept { S.files store.new ≡ S.files store.old }
 {
     match read_input(alloc, store, path) {

@@ -1,6 +1,6 @@
 use Rattle.std.proofs.Common.{◌≡◌, ◌∙◌, Contains, arith, subst, sym}
 use Rattle.std.proofs.lemmas.Bool.{false≢true}
-use Rattle.tool_answers.proofs.ReencodedLemmas.{same_text}
+use Rattle.std.proofs.lemmas.Slice.Eq.{bytes_eq-Decides}
 use Rattle.tool_answers.proofs.WordLemmas.{none_at_all, none_more, none_of_none}
 use Rattle.tool_answers.proofs.kind.permission_of.Goals as goal
 
@@ -12,7 +12,7 @@ pub loop-permission-preserved : goal.loop-permission-preserved
 loop-permission-preserved g c =
     none_more (λ permission. g.L.ToolLog.text_of permission ≡ c.args.text.now) c.deref-permission-items.result.now
     c.loop-permission.permission-index c.permission-item.result (omega arith) c.permission-item.is
-    (λ says. false≢true (sym c.if-eq.false ∙ c.eq.ensures ∙ same_text _ _ (c.permission_text.ensures ∙ says))) c.loop-permission.invariant
+    (λ says. false≢true (sym c.if-eq.false ∙ c.eq.ensures ∙ (bytes_eq-Decides _ _).1 (c.permission_text.ensures ∙ says))) c.loop-permission.invariant
 
 pub returns-clause-none : goal.returns-clause-none
 returns-clause-none g c =
