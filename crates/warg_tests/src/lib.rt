@@ -14,6 +14,8 @@ mod counter_runs;
 #[cfg(test)]
 mod counting;
 #[cfg(test)]
+mod entries_at_fault;
+#[cfg(test)]
 mod failing_signers;
 #[cfg(test)]
 mod failures;
