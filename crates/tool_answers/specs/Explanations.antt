@@ -1,10 +1,10 @@
 -- Why an input can't come next, in words: a sentence, and the place of the entry that is at fault.
-use Rattle.std.specs.Prelude.{◌≡◌, ℕ, List, Option, Some, None, Result, Ok, IsErr}
+use Rattle.std.specs.Prelude.{◌≡◌, ℕ, List, true, Option, Some, None, Result, Ok, IsErr}
 use Rattle.warg_envelope.specs.ErrorTexts.{error_text as fault_text}
 use Rattle.warg_operator_log.specs.ErrorTexts.{error_text as operator_error_text}
 use Rattle.warg_package_log.specs.ErrorTexts.{error_text as package_error_text}
 use Rattle.warg_protocol.specs.Errors.{DecodeError}
-use Rattle.warg_protocol.specs.Logs.{Cause, DecodedEnvelope, EnvelopeFault, ContentsMatchBytes, IsEntryTold, LogOffence, RunCause, Unlawful, Unread, cause_named_by, envelope_fault_of, envelope_of}
+use Rattle.warg_protocol.specs.Logs.{Cause, DecodedEnvelope, EnvelopeFault, ContentsMatchBytes, IsEntryTold, LogOffence, RunCause, SignatureRelation, Unlawful, Unread, cause_named_by, envelope_fault_of, envelope_of}
 use Rattle.warg_protocol.specs.Operator as in_operator
 use Rattle.warg_protocol.specs.Package as in_package
 use Rattle.warg_protocol.specs.Records.{RecordFault, fault_of}
@@ -27,6 +27,10 @@ pub record IsSentence {E C : Type 0} (sentence_of : E → List ℕ) (named_by : 
   pub is : text ≡ sentence_by sentence_of error
 
 -- ---- the entry
+
+-- any signature belongs
+abbrev pub all_belong : SignatureRelation
+all_belong key message signature = true
 
 -- the entry that an offence of a record after a view is of, if it is of one, in package logs and in operator logs
 abbrev pub tells_package_entry : in_package.View → DecodedEnvelope (LogRecord PackageEntry) → LogOffence in_package.Permission in_package.OwnOffence → Option ℕ → Type 0
