@@ -5,6 +5,7 @@ import { mkdtempSync, readFileSync, rmSync } from "node:fs";
 import { createServer } from "node:http";
 import { tmpdir } from "node:os";
 import { join } from "node:path";
+import { setTimeout as after } from "node:timers/promises";
 
 const PAGE =
   '<!doctype html><meta charset="utf-8"><title>weoldrin</title><script type="module" src="/page.js"></script>';
@@ -51,6 +52,17 @@ function serverOf(files, folder, answer) {
   });
 }
 
+/** Removes a browser's profile. Processes of the browser's own may write into it for a moment longer. */
+async function removed(profile, tries = 100) {
+  try {
+    rmSync(profile, { recursive: true, force: true });
+  } catch (error) {
+    if (tries === 0) throw error;
+    await after(100);
+    await removed(profile, tries - 1);
+  }
+}
+
 /**
  * What the page's script posts, or a text that begins with FAILED where the browser ends or is silent for so many
  * seconds. The script is `/page.js` of the files; the package in `folder` is served as `/package/`.
@@ -73,7 +85,6 @@ export async function answerIn(browser, files, folder, seconds = 100) {
   await ended;
   server.closeAllConnections();
   server.close();
-  // Processes of the browser's own may write for a moment longer.
-  rmSync(profile, { recursive: true, force: true, maxRetries: 20, retryDelay: 50 });
+  await removed(profile);
   return said;
 }
